@@ -24,24 +24,19 @@ impl Asked {
         Asked { job }
     }
 
-    /// Does the job on a text in memory, and adds to the digest what was written and the status.
+    /// Does the job on a text, and adds to the digest what was written and the status. If `is_read`, a reader gives the text piece by piece,
+    /// as a file does.
     pub(crate) fn run(
         &self,
         alloc: Global,
         text: &[u8],
+        is_read: bool,
         digest: &mut Digest,
     ) -> Result<(), AllocError> {
+        if is_read {
+            return self.run_on(alloc, &mut ReadSource::new(text), digest);
+        }
         self.run_on(alloc, &mut SliceSource::new(text), digest)
-    }
-
-    /// Does the same, but a reader gives the text piece by piece, as a file does.
-    pub(crate) fn run_read(
-        &self,
-        alloc: Global,
-        text: &[u8],
-        digest: &mut Digest,
-    ) -> Result<(), AllocError> {
-        self.run_on(alloc, &mut ReadSource::new(text), digest)
     }
 
     /// Does the job on what a source gives.

@@ -28,6 +28,15 @@ pub(crate) enum Player {
 }
 
 impl Player {
+    /// The player of a move, by the number of moves before it.
+    pub(crate) fn at(depth: usize) -> Player {
+        if depth % 2 == 0 {
+            Player::Black
+        } else {
+            Player::White
+        }
+    }
+
     /// The other player.
     pub(crate) fn other(self) -> Player {
         match self {
@@ -109,10 +118,14 @@ impl Goban {
         self.at(point) == EMPTY
     }
 
-    /// Puts a stone without any rule.
-    pub(crate) fn put(&mut self, player: Player, point: usize) {
-        if self.is_free(point) {
-            self.set(point, player.stone());
+    /// Empties the board, which gets this side, and puts the stones of a line, black and white by turns, without any rule.
+    pub(crate) fn set_line(&mut self, side: usize, line: &[u16]) {
+        self.clear(side);
+        for (i, point) in line.iter().enumerate() {
+            let point = usize::from(*point);
+            if self.is_free(point) {
+                self.set(point, Player::at(i).stone());
+            }
         }
     }
 

@@ -12,7 +12,7 @@ pub(crate) mod problems;
 
 use crate::chance::Chance;
 use crate::goban::{PASS, Player, place};
-use std::alloc::{AllocError, Global};
+use std::alloc::Global;
 
 /// A text that grows.
 #[derive(Drop)]
@@ -67,7 +67,7 @@ impl Text {
     }
 
     /// Notes that something is missing, unless `is_kept` is true.
-    fn keep(&mut self, is_kept: bool) {
+    pub(crate) fn keep(&mut self, is_kept: bool) {
         self.is_cut = self.is_cut || !is_kept;
     }
 
@@ -132,69 +132,58 @@ fn letter(number: usize) -> u8 {
 /// Words for comments, some with escapes.
 #[derive(Drop)]
 pub(crate) struct Words {
-    bytes: Vec<u8>,
+    text: Text,
     /// Where the words end.
     ends: Vec<usize>,
 }
 
 /// Some words. None is empty.
-const WORDS: [&[u8]; 12] = [
-    b"sente ",
-    b"gote ",
-    b"hane ",
-    b"cut ",
-    b"ko [atari\\] ",
-    b"shape\n",
-    b"moyo ",
-    b"3\\:2 ",
-    b"ladder ",
-    b"reading\\\\ ",
-    b"thick ",
-    b"aji, ",
+const WORDS: [&str; 12] = [
+    "sente ",
+    "gote ",
+    "hane ",
+    "cut ",
+    "ko [atari\\] ",
+    "shape\n",
+    "moyo ",
+    "3\\:2 ",
+    "ladder ",
+    "reading\\\\ ",
+    "thick ",
+    "aji, ",
 ];
 
 impl Words {
     /// So many words in a row.
-    pub(crate) fn new(
-        alloc: Global,
-        count: usize,
-        chance: &mut Chance,
-    ) -> Result<Words, AllocError> {
+    pub(crate) fn new(alloc: Global, count: usize, chance: &mut Chance) -> Words {
         let mut words = Words {
-            bytes: Vec::new(alloc),
+            text: Text::new(alloc),
             ends: Vec::new(alloc),
         };
         for _ in 0..count {
-            words.bytes.extend_from_slice(WORDS[chance.below(12)])?;
-            words.ends.push(words.bytes.len())?;
+            words.text.add(WORDS[chance.below(12)].as_bytes());
+            let is_kept = words.ends.push(words.text.len()).is_ok();
+            words.text.keep(is_kept);
         }
-        Ok(words)
-    }
-
-    /// Up to so many of the words that follow one another somewhere.
-    fn some(&self, most: usize, chance: &mut Chance) -> &[u8] {
-        let first = chance.below(self.ends.len());
-        let start = self.end_of(first);
-        let end = self.end_of(first.saturating_add(chance.below(most)));
-        if start <= end && end <= self.bytes.len() {
-            &self.bytes[start..end]
-        } else {
-            &[]
-        }
+        words
     }
 
     /// Where a word ends.
     fn end_of(&self, word: usize) -> usize {
         match self.ends.get(word) {
             Some(end) => *end,
-            None => self.bytes.len(),
+            None => self.text.len(),
         }
     }
 
-    /// Adds a comment of up to so many words to a text.
+    /// Adds a comment to a text: up to so many of the words that follow one another somewhere.
     pub(crate) fn add_comment(&self, text: &mut Text, most: usize, chance: &mut Chance) {
+        let first = chance.below(self.ends.len());
+        let start = self.end_of(first);
+        let end = self.end_of(first.saturating_add(chance.below(most)));
+        text.keep(!self.text.is_cut());
         text.add(b"C[");
-        text.add(self.some(most, chance));
+        text.add(self.text.part(start, end));
         text.add(b"]");
     }
 }

@@ -1,8 +1,8 @@
 -- Below which number of steps a stone may be played at once.
-use Rattle.board_past.proofs.Common.{◌≡◌, ℕ, suc, ◌<◌, ◌≤◌, [], ◌∷◌, List, false, length, inl, inr, sym, ap, ◌∙◌, arith, cases_eq, false≢true, Point, is_set, Colour, has_unreaching, play, IsMove, Emptied, Table, Held, PastColourings, all_of, newest_grid, with_next, is_full, ArePlayedAtOnce, IsAsleepTable, IsEmptied, IsTable, HasAllEmptied, has_bit-zero, settled_by_play}
+use Rattle.board_past.proofs.Common.{◌≡◌, ℕ, suc, ◌<◌, ◌≤◌, [], ◌∷◌, List, false, length, inl, inr, sym, ap, ◌∙◌, arith, cases_eq, false≢true, Point, is_set, Colour, has_unreaching, play, IsMove, Emptied, Table, Held, PastColourings, all_of, newest_grid, with_next, is_full, ArePlayedAtOnce, IsAsleepTable, IsAwakeTable, IsEmptied, IsPrintPast, IsTable, HasAllEmptied, has_bit-zero, settled_by_play}
 use Rattle.board_past.proofs.EmptiedLemmas.{history_all, logged_more, logged_next}
 use Rattle.board_past.proofs.RepeatLemmas.{emptied_by_play}
-use Rattle.board_past.proofs.TableLemmas.{asleep_more}
+use Rattle.board_past.proofs.TableLemmas.{asleep_more, table_same}
 
 -- a table that has room while it sleeps is asleep
 pub asleep_if_room : (held : List Held) (table : Table) (below : ℕ) → IsTable held table → 0 < below → (0 < below → below < table.room_asleep) → IsAsleepTable held table
@@ -16,6 +16,15 @@ at_once_none past table = record { settled = λ some. absurd (omega (arith, some
 -- with more room, and as many colourings, the number holds still
 pub at_once_same : (past : PastColourings) (old new : Table) (below : ℕ) → old.room_asleep ≤ new.room_asleep → ArePlayedAtOnce past old below → ArePlayedAtOnce past new below
 at_once_same past old new below more is = record { settled = is.settled; asleep = λ some. omega (arith, more, is.asleep some); not_full = is.not_full }
+
+-- and a past that gets more room keeps all else
+pub past_same : (past : PastColourings) (old new : Table) (one other : Emptied) (below : ℕ) → (IsAsleepTable (all_of past) old → IsAsleepTable (all_of past) new) → (IsAwakeTable (all_of past) old → IsAwakeTable (all_of past) new) → old.room_asleep ≤ new.room_asleep
+    → (IsEmptied (all_of past) one → IsEmptied (all_of past) other) → IsPrintPast past old one below → IsPrintPast past new other below
+past_same past old new one other below asleep awake more emptied is = record {
+  tabled = table_same (all_of past) old new asleep awake is.tabled;
+  emptied_in = emptied is.emptied_in;
+  at_once = at_once_same past old new below more is.at_once;
+}
 
 -- a stone that is played: the number holds still
 pub at_once_more : (was : PastColourings) (table : Table) (below : ℕ) (k : Colour) (p : Point) → ArePlayedAtOnce was table below → ArePlayedAtOnce (with_next was (play (newest_grid was) k p) false) table below

@@ -21,7 +21,7 @@ pub use Rattle.board_stones.proofs.SettledLemmas.{settled_by_play, side_play}
 pub use Rattle.key_trie.proofs.TrieLemmas.{agree_self, parts_as, way_nearest, agree_back, agree_less, agree_on, opening_same, trie_same}
 pub use Rattle.board_points.specs.declared.points.Point.{Point}
 pub use Rattle.board_points.specs.Point.{index_of, IsOn}
-pub use Rattle.board_points.specs.Rows.{has_bit, is_set, IsAmong}
+pub use Rattle.board_points.specs.Rows.{AreRowsOf, has_bit, is_set, IsAmong}
 pub use Rattle.key_trie.specs.declared.trie.Trie.{Trie}
 pub use Rattle.key_trie.specs.Key.{Agree}
 pub use Rattle.key_trie.specs.Trie.{capacity_of, child_at, IsNearest, IsOpening, IsParting, IsTrie, IsWayTo, item_count, nodes_of}
@@ -48,7 +48,7 @@ unfoldable pub use Rattle.board_past.specs.inner.Hash.{hash_of}
 pub use Rattle.board_past.specs.inner.Key.{bits_of, has_stone, hash_in_key, key_bit, key_bits, keys_of, oldest, since, start_of}
 pub use Rattle.board_past.specs.inner.Print.{code, in_base, number_within, prints_of, row_number, row_within, word_number}
 unfoldable pub use Rattle.board_past.specs.inner.Print.{print_of}
-pub use Rattle.board_past.specs.inner.Table.{GrowsTable, HasRoomForNext, IsAsleepTable, IsAwakeTable, IsGap, IsPrintOfNext, IsTable, LinksNext, most_to_link, SameButHashes}
+pub use Rattle.board_past.specs.inner.Table.{GrowsTable, HasRoomForNext, IsAsleepTable, IsAwakeTable, IsGap, IsPrintOfNext, IsTable, LinksNext, most_to_link}
 pub use Rattle.board_points.proofs.RowLemmas.{AddedBelow, added_all, added_next}
 pub use Rattle.board_points.proofs.GrowLemmas.{each_row, row_below}
 pub use Rattle.board_past.specs.declared.past.print_past.print.TheConstants.{NUMBERS}

@@ -1,5 +1,5 @@
 -- A stone that stays can repeat a colouring of the stretch only on a point that was emptied.
-use Rattle.board_past.proofs.Common.{◌≡◌, ◌≢◌, ◌*◌, zero, suc, inl, inr, ℕ, Bool, true, false, cond, List, [], ◌∷◌, length, Contains, Result, Ok, ap, sym, subst, ◌∙◌, arith, IsErr, cases_Bool, false≢true, Point, IsOn, is_set, IsAmong, Empty, Colour, play, same_cell, Grid, cell_at, IsMove, Held, PastColourings, all_of, newest_grid, with_next, stretch_of, present_stretch, AllHaveSide, HaveSide, IsPlayed, WasEmptied, IsFreshStone, HasEmptied, HasAllEmptied, same_or_not, side_play, Decides-same_cell, cell_at-with_cell, cell_at-with_cell_elsewhere, stone_of≢Empty}
+use Rattle.board_past.proofs.Common.{◌≡◌, ◌≢◌, ◌*◌, ◌||◌, zero, suc, inl, inr, ℕ, Bool, true, false, cond, List, [], ◌∷◌, length, Contains, Result, Ok, ap, sym, subst, ◌∙◌, arith, IsErr, cases_Bool, false≢true, Point, IsOn, is_set, IsAmong, AreRowsOf, Black, Empty, White, Colour, play, same_cell, Grid, cell_at, IsMove, Held, PastColourings, all_of, newest_grid, with_next, stretch_of, present_stretch, AllHaveSide, HaveSide, IsPlayed, WasEmptied, IsFreshStone, HasEmptied, HasAllEmptied, same_or_not, side_play, Decides-same_cell, cell_at-with_cell, cell_at-with_cell_elsewhere, stone_of≢Empty}
 
 -- a colouring that has a stone where the newest has none comes back only where that point was emptied
 pub emptied-if_back : (point : Point) (made newest : Grid) (others : List Grid) → cell_at newest point ≡ Empty → cell_at made point ≢ Empty → Contains (newest ∷ others) made → WasEmptied point (newest ∷ others)
@@ -37,6 +37,11 @@ HasAllEmptied-more a b (later ∷ (earlier ∷ others)) among all =
 -- a stone empties what it clears, and no other point
 pub emptied_by_play : (g : Grid) (k : Colour) (p : Point) (rows : List ℕ) → IsMove g k p rows → HasEmptied (is_set rows) g (play g k p)
 emptied_by_play g k p rows move = grind (arith, cases_Bool, cell_at-with_cell_elsewhere, false≢true, same_or_not)
+
+-- a set that got the black and the white stones of a grid has each of its stones
+pub all_stones : (g : Grid) (black white before one both : List ℕ) → AreRowsOf g.side (λ p. same_cell (cell_at g p) Black) black → AreRowsOf g.side (λ p. same_cell (cell_at g p) White) white
+    → ((p : Point) → is_set one p ≡ (is_set before p || is_set black p)) → ((p : Point) → is_set both p ≡ (is_set one p || is_set white p)) → (p : Point) → IsOn g.side p → cell_at g p ≢ Empty → is_set both p ≡ true
+all_stones g black white before one both blacks whites adds more p on some = grind arith
 
 -- What a stone leaves on the grid that it makes, if it isn't cleared at once: itself, and each stone that it doesn't clear.
 module _ (g : Grid) (k : Colour) (p : Point) (rows : List ℕ) (all : length g.cells ≡ g.side * g.side) (move : IsMove g k p rows) where

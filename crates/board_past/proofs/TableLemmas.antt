@@ -1,5 +1,5 @@
 -- The table by which colourings are looked up.
-use Rattle.board_past.proofs.Common.{◌≡◌, ℕ, ◌+◌, ◌*◌, ◌<◌, ◌≤◌, ◌^◌, bit_xor, Bool, true, false, if◌then◌else◌, List, [], ◌∷◌, ◌++◌, Option, None, Some, IfSome, length, length-append, get_or, reverse, Contains, inl, inr, refl, sym, ap, subst, ◌∙◌, arith, eq-eqb, ne_eqb, bit_at, cases_Bool, reverse-append, same_Some, Point, has_bit, Trie, Agree, nodes_of, item_count, capacity_of, IsTrie, IsNearest, IsOpening, IsParting, Colour, play, Grid, WIDTH, Table, Held, PastColourings, all_of, newest_grid, present_stretch, stretch_of, with_next, IsNumber, hash_of, HasHashes, hash_in_key, key_bits, start_of, since, keys_of, print_of, prints_of, HasRoomForNext, IsAsleepTable, IsAwakeTable, IsGap, IsPrintOfNext, IsTable, LinksNext, SameButHashes, most_to_link, vec_capacity, GrowsTable, agree_self, agree_less, parts_as, trie_same, opening_same, IsWayTo, child_at, way_nearest}
+use Rattle.board_past.proofs.Common.{◌≡◌, ℕ, ◌+◌, ◌*◌, ◌<◌, ◌≤◌, ◌^◌, bit_xor, Bool, true, false, if◌then◌else◌, List, [], ◌∷◌, ◌++◌, Option, None, Some, IfSome, length, length-append, get_or, reverse, Contains, inl, inr, refl, sym, ap, subst, ◌∙◌, arith, eq-eqb, ne_eqb, bit_at, cases_Bool, reverse-append, same_Some, Point, has_bit, Trie, Agree, nodes_of, item_count, capacity_of, IsTrie, IsNearest, IsOpening, IsParting, Colour, play, Grid, WIDTH, Table, Held, PastColourings, all_of, newest_grid, present_stretch, stretch_of, with_next, IsNumber, hash_of, HasHashes, hash_in_key, key_bits, start_of, since, keys_of, print_of, prints_of, HasRoomForNext, IsAsleepTable, IsAwakeTable, IsGap, IsPrintOfNext, IsTable, LinksNext, most_to_link, vec_capacity, GrowsTable, agree_self, agree_less, parts_as, trie_same, opening_same, IsWayTo, child_at, way_nearest}
 use Rattle.board_past.specs.declared.past.print_past.table.Gap.{Gap}
 use Rattle.board_past.specs.declared.past.print_past.hashes.Hashes.{Hashes}
 use Rattle.key_trie.specs.declared.trie.Slot.{Slot}
@@ -126,7 +126,7 @@ tabled_with held table after is prints hashes awake room most few trie = record 
 }
 
 -- one colouring more is in the trie, and keys stay as they are
-pub one_linked : (old new : Table) → new.prints.items ≡ old.prints.items → new.hashed ≡ old.hashed → item_count new.trie ≡ item_count old.trie + 1 → item_count old.trie < length old.prints.items → most_to_link new < most_to_link old
+one_linked : (old new : Table) → new.prints.items ≡ old.prints.items → new.hashed ≡ old.hashed → item_count new.trie ≡ item_count old.trie + 1 → item_count old.trie < length old.prints.items → most_to_link new < most_to_link old
 one_linked old new prints hashed next more = elim (cases_Bool old.hashed) [
   | inl on ↦ rw (prints, hashed, on) (omega (arith, next, more))
   | inr off ↦ rw (prints, hashed, off) (omega (arith, next, more))
@@ -146,20 +146,15 @@ hashes_more next held hashes is = record {
   ];
 }
 
-pub same_both : (one two three : Table) → SameButHashes one two → SameButHashes two three → SameButHashes one three
-same_both one two three a b = record { trie = b.trie ∙ a.trie; prints = b.prints ∙ a.prints; hashed = b.hashed ∙ a.hashed }
-
--- one colouring more is in the trie of a table whose hashes alone differ from those of another one
-pub links_with : (held : List Held) (old now : Table) (trie : Trie) → IsAwakeTable held now → SameButHashes old now → item_count old.trie < length old.prints.items
-    → capacity_of trie ≡ capacity_of now.trie → item_count trie ≡ item_count now.trie + 1 → IsTrie WIDTH (keys_of old.hashed held) trie → LinksNext held old (record now { trie = trie })
-links_with held old now trie is same more room next linked =
-    let count : item_count trie ≡ item_count old.trie + 1 = next ∙ ap (λ (x : Trie). item_count x + 1) same.trie in
-    let prints : length now.prints.items ≡ length old.prints.items = ap (λ (xs : List ℕ). length xs) same.prints in
+-- one colouring more is in the trie, and other hashes may be kept
+pub links_with : (held : List Held) (old : Table) (hashes : Hashes) (trie : Trie) → IsAwakeTable held (record old { hashes = hashes }) → item_count old.trie < length old.prints.items
+    → capacity_of trie ≡ capacity_of old.trie → item_count trie ≡ item_count old.trie + 1 → IsTrie WIDTH (keys_of old.hashed held) trie → LinksNext held old (record old { trie = trie; hashes = hashes })
+links_with held old hashes trie is more room next linked =
+    let new = record old { trie = trie; hashes = hashes } in
     record {
-      table = tabled_with held now (record now { trie = trie }) is refl refl refl (omega (arith, is.room, room)) (omega (arith, is.most, room)) (omega (arith, count, more, prints))
-          (subst (λ (h : Bool). IsTrie WIDTH (keys_of h held) trie) (sym same.hashed) linked);
-      fewer = one_linked old (record now { trie = trie }) same.prints same.hashed count more;
-      prints = same.prints;
+      table = tabled_with held (record old { hashes = hashes }) new is refl refl refl (omega (arith, is.room, room)) (omega (arith, is.most, room)) (omega (arith, next, more)) linked;
+      fewer = one_linked old new refl refl next more;
+      prints = refl {A = List ℕ};
     }
 
 -- a number has one colouring, and so one hash

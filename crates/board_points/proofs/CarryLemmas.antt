@@ -1,7 +1,8 @@
 -- Widening a set of columns: a sum carries from a column on as far as there is region, and steps go back from there.
 use Rattle.board_points.proofs.Common.{◌≡◌, ◌⊎◌, inl, inr, ℕ, zero, suc, ◌+◌, ◌-◌, ◌*◌, ◌/◌, ◌%◌, ◌^◌, ◌<◌, ◌≤◌, ◌≢◌, ◌&&◌, Bool, true, false, not, bit_and, bit_or, w64, sym, ap, ◌∙◌, arith, rules, mod-eq_of_lt, pow_pos, bit_at, bit_not, trailing_zeros, and-false, or_cases, or_left, or_right, and_parts, and_from, false≢true, cases_lt, cases_Bool, common_steps, mod-pow-add, mod_below, has_bit, IsPart, HasBeside, HasNext, IsWidened, two-pow-succ}
+use Rattle.std.proofs.Common.{bit_xor}
 use Rattle.std.proofs.Math.Nat.{add-mod, add-mod_left}
-use Rattle.board_points.proofs.WordLemmas.{has_bit-or, has_bit-and, has_bit-without, has_bit-low, has_bit-right, bit_at-there, bit_at-gone, column_below, has_bit-zero, le_from_part}
+use Rattle.board_points.proofs.WordLemmas.{has_bit_apart, has_bit-or, has_bit-and, has_bit-without, has_bit-low, has_bit-right, bit_at-there, bit_at-gone, column_below, has_bit-zero, le_from_part}
 use Rattle.board_points.proofs.ColumnLemmas.{lowest_left}
 
 -- a word with one column more of it
@@ -174,13 +175,15 @@ HasBeside-none region seed word left widened left_is none c d (inr after) in_roo
     ap (has_bit word) at ∙ widened.next d is (ap (has_bit region) (sym at) ∙ in_room)
 
 -- what is left once a set has some of it
-pub AreLeft-before : (region word left before next : ℕ) → AreLeft region word left → ((c : ℕ) → has_bit next c ≡ (has_bit left c && not (has_bit before c))) → AreLeft region (bit_or word before) next
-AreLeft-before region word left before next left_is next_is c = grind (arith, common_steps, has_bit-or, left_is, next_is)
+pub AreLeft-before : (region word left before : ℕ) → AreLeft region word left → IsPart (has_bit before) (has_bit left) → AreLeft region (bit_or word before) (bit_xor left before)
+AreLeft-before region word left before left_is part c =
+    let next_is = has_bit_apart left before c part in grind (arith, common_steps, has_bit-or, left_is, next_is)
 
-pub fewer_left : (left before next : ℕ) → before ≢ 0 → before < 2 ^ 64 → IsPart (has_bit before) (has_bit left) → ((c : ℕ) → has_bit next c ≡ (has_bit left c && not (has_bit before c))) → next < left
-fewer_left left before next some low part next_is =
+pub fewer_left : (left before : ℕ) → before ≢ 0 → before < 2 ^ 64 → IsPart (has_bit before) (has_bit left) → bit_xor left before < left
+fewer_left left before some low part =
     let there = (lowest_left before before some low (λ _ is. is)).0 in
     let lowest = trailing_zeros w64 before in
-    let gone : has_bit next lowest ≡ false = next_is lowest ∙ ap (λ b. has_bit left lowest && not b) there ∙ and-false (has_bit left lowest) in
-    let differs : next ≢ left = λ same. false≢true (sym gone ∙ ap (λ w. has_bit w lowest) same ∙ part lowest there) in
-    omega (arith, le_from_part next left (λ c is. (and_parts _ _ (sym (next_is c) ∙ is)).0), differs)
+    let next_is : AreLeft left before (bit_xor left before) = λ c. has_bit_apart left before c part in
+    let gone : has_bit (bit_xor left before) lowest ≡ false = next_is lowest ∙ ap (λ b. has_bit left lowest && not b) there ∙ and-false (has_bit left lowest) in
+    let differs : bit_xor left before ≢ left = λ same. false≢true (sym gone ∙ ap (λ w. has_bit w lowest) same ∙ part lowest there) in
+    omega (arith, le_from_part (bit_xor left before) left (λ c is. (and_parts _ _ (sym (next_is c) ∙ is)).0), differs)

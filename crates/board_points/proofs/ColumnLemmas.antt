@@ -81,10 +81,5 @@ highest word low some =
 -- a word without one of its columns is a smaller number
 pub without_smaller : (word next col : ℕ) → has_bit word col ≡ true → has_bit next col ≡ false → ((k : ℕ) → k ≢ col → has_bit next k ≡ has_bit word k) → next < word
 without_smaller word next col is gone elsewhere =
-    let part : IsPart (has_bit next) (has_bit word) = λ k there.
-    elim (cases_eq k col) [
-      | inl same ↦ ap (has_bit word) same ∙ is
-      | inr other ↦ sym (elsewhere k other) ∙ there
-    ] in
-    let differs : next ≢ word = λ same. false≢true (sym gone ∙ ap (λ w. has_bit w col) same ∙ is) in
-    omega (arith, le_from_part next word part, differs)
+    let part : IsPart (has_bit next) (has_bit word) = grind (arith, common_steps, cases_eq) in
+    omega (arith, le_from_part next word part, (λ (same : next ≡ word). false≢true (sym gone ∙ ap (λ w. has_bit w col) same ∙ is)))

@@ -17,11 +17,7 @@ ones_more n c = grind (arith, common_steps, bit_at-lt, mod-pow-add, mod_below, o
 pub below_from_bits : (n k : ℕ) → ((c : ℕ) → has_bit n c ≡ true → c < k) → n % 2 ^ k ≡ n
 below_from_bits n k each =
     same_from_bits (n % 2 ^ k) n
-    (λ i.
-    elim (cases_lt i k) [
-      | inl below ↦ bit_at-mod n k i below
-      | inr above ↦ bit_at_above (n % 2 ^ k) k i (mod_below n (2 ^ k) (pow_pos k)) above ∙ sym (bit_at-gone n i (false_from_ne_true _ (λ is. omega (arith, each i is, above))))
-    ])
+    (λ i. grind (arith, common_steps, cases_lt, bit_at-mod, bit_at_above, mod_below, pow_pos, bit_at-gone, false_from_ne_true))
 
 module _ (side : ℕ) (test : Point → Bool) where
   counted : ℕ → ℕ

@@ -1,7 +1,8 @@
 -- Rows that give their points to the rows beside them, as a set is filled.
 use Rattle.board_points.proofs.Common.{◌≡◌, ◌≢◌, inl, inr, ℕ, ◌+◌, ◌-◌, ◌^◌, ◌<◌, ◌≤◌, ◌⊎◌, ◌&&◌, ◌||◌, Bool, true, false, not, nat_eq, List, length, set, bit_and, bit_or, refl, sym, ap, ◌∙◌, arith, slice_index, subst, w64, length-set, trailing_zeros, or_cases, or_left, or_right, and_parts, and_from, false≢true, cases_eq, cases_Bool, Up, Down, has_bit, is_set, IsAmong, IsClosed, Grows, IsPart, HasBeside, IsTaken, row_above, IsNext, opposite, AreRowsBelow, HaveGiven, HaveGivenBut, IsFilledBut, HaveMore, lacking}
+use Rattle.std.proofs.Common.{bit_xor}
 use Rattle.board_points.specs.declared.fill.Direction.{Direction}
-use Rattle.board_points.proofs.WordLemmas.{has_bit-or, has_bit-and, has_bit-zero, not_in_part, le_from_part}
+use Rattle.board_points.proofs.WordLemmas.{has_bit_apart, has_bit-or, has_bit-and, has_bit-zero, not_in_part, le_from_part}
 use Rattle.board_points.proofs.ColumnLemmas.{lowest_left}
 use Rattle.board_points.proofs.GrowLemmas.{row_below, set_there, set_elsewhere, each_row, Grows-twice, Grows-row, above_at, seed_of, lacking-more, zero_of, taken_with, from_with, part_with}
 
@@ -33,6 +34,10 @@ given_but d region rows flags given r n is free col there has = inl (given r n i
 
 given_all : (d : Direction) (region rows : List ℕ) (flags : ℕ) → HaveGivenBut d region rows flags 0 0 → HaveGiven d region rows flags
 given_all d region rows flags given r n is free col there has = grind (arith, false≢true, has_bit-zero)
+
+-- what a row lacks of the region
+pub has_bit_lacked : (region rows : List ℕ) (row : ℕ) → IsAmong (is_set rows) (is_set region) → (col : ℕ) → has_bit (bit_xor (slice_index region row) (slice_index rows row)) col ≡ (has_bit (slice_index region row) col && not (has_bit (slice_index rows row) col))
+has_bit_lacked region rows row within col = has_bit_apart _ _ col (λ k is. within (record { col = k; row = row }) is)
 
 -- once a direction has no flagged rows left, the other one's turn comes
 pub turned : (d : Direction) (region first rows : List ℕ) (back : ℕ) → IsFilledBut region first rows d 0 back 0 0 → IsFilledBut region first rows (opposite d) back 0 0 0
@@ -345,8 +350,9 @@ module _ (region rows : List ℕ) (next given here taken : ℕ) (below : next < 
   pub left-there : (left : ℕ) → ((col : ℕ) → has_bit left col ≡ (has_bit here col && not (has_bit taken col))) → (col : ℕ) → has_bit left col ≡ (has_bit (slice_index region next) col && not (has_bit (slice_index (set rows next grown) next) col))
   left-there left left_is col = grind (arith, has_bit-or, now_there, without_both)
 
-  pub lacking-taken : bit_and here given ≢ 0 → here < 2 ^ 64 → slice_index region next < 2 ^ 64 → IsPart (has_bit (bit_and here given)) (has_bit taken) → lacking (set rows next grown) < lacking rows
-  lacking-taken some low room kept =
+  pub lacking-taken : bit_and here given ≢ 0 → slice_index region next < 2 ^ 64 → IsPart (has_bit (bit_and here given)) (has_bit taken) → lacking (set rows next grown) < lacking rows
+  lacking-taken some room kept =
+      let low : here < 2 ^ 64 = omega (arith, room, le_from_part here (slice_index region next) (λ col is. (here_parts col is).0)) in
       let fits = le_from_part grown (slice_index region next) (λ col is. IsAmong-taken (record { col = col; row = next }) (now_there col ∙ is)) in
       let lowest = trailing_zeros w64 (bit_and here given) in
       let there = (lowest_left here (bit_and here given) some low (λ col is. (and_parts _ _ (sym (has_bit-and here given col) ∙ is)).0)).0 in

@@ -1,5 +1,5 @@
 -- Sets of points in the halves of words.
-use Rattle.board_points.proofs.Common.{◌≡◌, ◌≢◌, inl, inr, ℕ, ◌+◌, ◌-◌, ◌*◌, ◌/◌, ◌%◌, ◌^◌, ◌<◌, ◌≤◌, ◌==◌, ◌&&◌, true, false, not, nat_lt, max, bit_and, count_ones, w64, List, slice_index, sym, ap, ◌∙◌, arith, length, subst, pow_pos, bit_at, bit_not, rotate_left, and_parts, and_from, cases_lt, Decides-ltb, common_steps, length-map, mod_below, ones_cat, bit_at_above, bit_at_cat_high, bit_at_cat_low, bit_at_or, bit_at-zero, same_from_bits, Point, low_halves, high_halves, AreOthersPaired, AreAdjacent, has_bit, is_set, IsAmong, IsClosed, IsPart}
+use Rattle.board_points.proofs.Common.{◌≡◌, ◌≢◌, inl, inr, ℕ, ◌+◌, ◌-◌, ◌*◌, ◌/◌, ◌%◌, ◌^◌, ◌<◌, ◌≤◌, ◌==◌, ◌&&◌, true, false, not, nat_lt, max, bit_and, count_ones, w64, List, slice_index, sym, ap, ◌∙◌, arith, length, subst, pow_pos, bit_at, bit_not, rotate_left, and_parts, and_from, cases_lt, Decides-ltb, common_steps, length-map, mod_below, ones_cat, bit_at_above, bit_at_cat_high, bit_at_cat_low, bit_at_or, bit_at-zero, same_from_bits, Point, IsOn, low_halves, high_halves, AreOthersPaired, AreAdjacent, has_bit, is_set, IsAmong, IsClosed, IsPart}
 use Rattle.std.proofs.Math.ListN.{get_or-map}
 use Rattle.board_points.proofs.WordLemmas.{same_bools, bit_at-mod, column_below, has_bit-less, not_in_part, same_word}
 use Rattle.board_points.proofs.ColumnLemmas.{AreOthers}
@@ -102,6 +102,9 @@ pub fits_half : (word side : ℕ) → side < 32 → ((col : ℕ) → has_bit wor
 fits_half word side small each =
     subst (λ n. n < 2 ^ 32) (below_from_bits word 32 (λ col is. let below = each col is in omega (arith, below, small))) (mod_below word (2 ^ 32) (pow_pos 32))
 
+pub row_fits_half : (rows : List ℕ) (side row : ℕ) → side < 32 → ((p : Point) → is_set rows p ≡ true → IsOn side p) → slice_index rows row < 2 ^ 32
+row_fits_half rows side row small on = fits_half (slice_index rows row) side small (λ col is. (on (record { col = col; row = row }) is).0)
+
 -- halves exchanged by a rotation
 max_none : (x : ℕ) → max x 0 ≡ x
 max_none x = omega arith
@@ -129,11 +132,11 @@ rotated n low =
           ∙ sym (bit_at_cat_high (n % 2 ^ 32) 32 (n / 2 ^ 32) i few above)
     ]))
 
-pub low_rotated : (n : ℕ) → n < 2 ^ 64 → rotate_left w64 n 32 % 2 ^ 32 ≡ n / 2 ^ 32
-low_rotated n low = let is = rotated n low in omega (arith, is, low)
+pub low_rotated : (n turned : ℕ) → n < 2 ^ 64 → turned ≡ rotate_left w64 n 32 → turned % 2 ^ 32 ≡ n / 2 ^ 32
+low_rotated n turned low is = let halves = rotated n low in omega (arith, is, halves, low)
 
-pub high_rotated : (n : ℕ) → n < 2 ^ 64 → rotate_left w64 n 32 / 2 ^ 32 ≡ n % 2 ^ 32
-high_rotated n low = let is = rotated n low in omega (arith, is, low)
+pub high_rotated : (n turned : ℕ) → n < 2 ^ 64 → turned ≡ rotate_left w64 n 32 → turned / 2 ^ 32 ≡ n % 2 ^ 32
+high_rotated n turned low is = let halves = rotated n low in omega (arith, is, halves, low)
 
 past_half : (word c : ℕ) → 32 ≤ c → has_bit (word % 2 ^ 32) c ≡ false
 past_half word c above = ap (λ n. n == 1) (bit_at_above (word % 2 ^ 32) 32 c (mod_below word (2 ^ 32) (pow_pos 32)) above)

@@ -94,16 +94,16 @@ pub record HaveLibertyInRow (own others : List ℕ) (row found : ℕ) : Type 0 w
 pub HaveLibertyInRow-row : (own others : List ℕ) (row wide : ℕ) → ((col : ℕ) → has_bit wide col ≡ true → HasLiberty own others (record { col = col; row = row })) → ((col : ℕ) → col < 64 → HasLiberty own others (record { col = col; row = row }) → has_bit wide col ≡ true) → HaveLibertyInRow own others row (bit_and (slice_index own row) wide)
 HaveLibertyInRow-row own others row wide from to = grind (arith, common_steps, and_from, and_parts, has_bit-and, slice_index)
 
+-- each stone that a group grew by is linked to it
+pub part_linked : (own start rows : List ℕ) (from : Point) → Grows (is_set own) (is_set start) (is_set rows) → ((p : Point) → is_set start p ≡ true → IsLinked (is_set own) from p) → (stone : Point) → is_set rows stone ≡ true → (is_set own stone ≡ true) × IsLinked (is_set own) from stone
+part_linked own start rows from grows linked stone is =
+    (grows.within stone is, λ set closed has. grows.least set closed (λ p there. linked p there set closed has) stone is)
+
 -- a group that grew from stones linked to a stone is linked to it
 pub alive_linked : (own others start rows : List ℕ) (from : Point) → Grows (is_set own) (is_set start) (is_set rows) → ((p : Point) → is_set start p ≡ true → IsLinked (is_set own) from p) → HasOneAlive own others rows → (p : Point) × IsLiberty own others from p
-alive_linked own others start rows from grows linked alive = (
-  alive.0,
-  record {
-    own_stone = grows.within alive.0 alive.1;
-    linked = λ set closed has. grows.least set closed (λ p is. linked p is set closed has) alive.0 alive.1;
-    liberty = alive.2;
-  },
-)
+alive_linked own others start rows from grows linked alive =
+    let part = part_linked own start rows from grows linked alive.0 alive.1 in
+    (alive.0, record { own_stone = part.0; linked = part.1; liberty = alive.2 })
 
 -- a stone that is linked to another one is linked back
 module _ (region : Point → Bool) (a b : Point) (there : region a ≡ true) (linked : IsLinked region a b) (set : Point → Bool) (closed : IsClosed region set) (has : set b ≡ true) where
@@ -132,8 +132,3 @@ IsLiberty-linked own others from point stone there linked lives = record {
   linked = λ set closed has. lives.linked set closed (IsLinked-back (is_set own) from point there linked set closed has);
   liberty = lives.liberty;
 }
-
--- each stone that a group grew by is linked to it
-pub part_linked : (own start rows : List ℕ) (from : Point) → Grows (is_set own) (is_set start) (is_set rows) → ((p : Point) → is_set start p ≡ true → IsLinked (is_set own) from p) → (stone : Point) → is_set rows stone ≡ true → (is_set own stone ≡ true) × IsLinked (is_set own) from stone
-part_linked own start rows from grows linked stone is =
-    (grows.within stone is, λ set closed has. grows.least set closed (λ p there. linked p there set closed has) stone is)

@@ -58,17 +58,11 @@ slice_get-points side index point = (
 
 -- the points before a place of a list, and the one at it
 pub Contains-take_more : (ps : List Point) (n : ℕ) (q : Point) → n < length ps → (Contains (take (n + 1) ps) q ↔ (Contains (take n ps) q ⊎ (q ≡ get_or ps n origin)))
-Contains-take_more ps n q within = (
-  λ among.
-      elim (Contains-push_cases (take n ps) (get_or ps n origin) q (subst (λ l. Contains l q) (take_more ps n origin within) among))
-      [ inl before ↦ inl before | inr is ↦ inr (sym is) ],
-  λ part.
-      subst (λ l. Contains l q) (sym (take_more ps n origin within))
-      (elim part [
-        | inl before ↦ Contains-append_left (take n ps) (get_or ps n origin ∷ []) q before
-        | inr is ↦ rw is (Contains-push (take n ps) (get_or ps n origin))
-      ]),
-)
+Contains-take_more ps n q within =
+    rw (take_more ps n origin within) (
+      λ among. elim (Contains-push_cases _ _ _ among) [ inl before ↦ inl before | inr is ↦ inr (sym is) ],
+      λ part. elim part [ inl before ↦ Contains-append_left _ _ _ before | inr is ↦ rw is (Contains-push _ _) ],
+    )
 
 -- a function of the points, in a list, read at a point's index
 pub get_or-map-points : {X : Type 0} (f : Point → X) (side : ℕ) (p : Point) (d : X) → IsOn side p → get_or (map f (points side)) (index_of side p) d ≡ f p

@@ -36,10 +36,7 @@ pub record AddedBelow (old rows : List ℕ) (row : ℕ) (new : List ℕ) : Type 
   pub same : (r : ℕ) → row ≤ r → slice_index new r ≡ slice_index old r
 
 pub added_next : (old rows now : List ℕ) (row : ℕ) → row < length now → AddedBelow old rows row now → AddedBelow old rows (row + 1) (slice_set now row (bit_or (slice_index now row) (slice_index rows row)))
-added_next old rows now row low is = record {
-  added = written_more (λ r w. w ≡ bit_or (slice_index old r) (slice_index rows r)) now row _ low is.added (ap (λ w. bit_or w (slice_index rows row)) (is.same row (omega arith)));
-  same = λ r above. get_or-set_other now row r _ 0 (omega (arith, above)) ∙ is.same r (omega (arith, above));
-}
+added_next old rows now row low is = grind (arith, common_steps, written_more, get_or-set_other, get_or-set_same)
 
 pub added_all : (old rows new : List ℕ) → AddedBelow old rows (length rows) new → (p : Point) → is_set new p ≡ (is_set old p || is_set rows p)
 added_all old rows new each p = grind (arith, common_steps, has_bit-or, get_or_past, has_bit-zero, or-false)

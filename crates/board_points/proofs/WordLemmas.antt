@@ -128,10 +128,7 @@ has_bit-right a c = ap (λ x. x == 1) (sym (bit_at-suc a c))
 -- a part of a set of columns is no greater a number
 pub le_from_part : (a b : ℕ) → IsPart (has_bit a) (has_bit b) → a ≤ b
 le_from_part a b part =
-    subst (λ n. a ≤ n)
-    (same_from_bits (bit_or a b) b
-    (λ i. bit_at_or a b i ∙ max_part (bit_at a i) (bit_at b i) (bit_at-lt a i) (bit_at-lt b i) (part i)))
-    (le_or_l a b)
+    subst (λ n. a ≤ n) (same_from_bits (bit_or a b) b (λ i. grind (arith, common_steps, bit_at_or, max_part, bit_at-lt))) (le_or_l a b)
 
 pub same_bools : (a b : Bool) → (a ≡ true → b ≡ true) → (b ≡ true → a ≡ true) → a ≡ b
 same_bools a b there back = grind (arith, common_steps)

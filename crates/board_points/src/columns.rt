@@ -3,8 +3,6 @@
 
 ghost use Rattle.std.specs.Prelude.{◌≡◌, ◌≢◌, ◌<◌, ◌≤◌, ◌||◌, ◌&&◌, false, not, nat_le, ℕ, IsTrue};
 ghost use Rattle.board_points.specs.Rows.{has_bit, AreAllColumns};
-ghost use Rattle.board_points.specs.inner.Columns.{IsPart};
-ghost use Rattle.board_points.specs.inner.Look.{AreColumnsOff};
 
 /// Whether a word has the bit of a column.
 pub fn has_column(word: u64, col: usize) -> bool
@@ -41,31 +39,12 @@ pub fn all_columns(side: usize) -> u64
     (1 << side) - 1
 }
 
-/// The columns that a row with `side` columns doesn't have. There must be fewer than 64.
-#[tactic(auto, using(crate::proofs::WordLemmas::columns_off))]
-pub(crate) fn columns_off(side: usize) -> u64
-    requires { side < 64 }
-    ensures { AreColumnsOff side result }
-{
-    !all_columns(side)
-}
-
 /// The columns of `all` that aren't in `word`.
 pub fn columns_left(all: u64, word: u64) -> u64
     ensures within { (col : ℕ) → col < 64 → has_bit result col ≡ (has_bit all col && not (has_bit word col)) }
     ensures off { (col : ℕ) → IsTrue (has_bit result col) → IsTrue (has_bit all col) }
 {
     all & !word
-}
-
-/// The columns of `all` that aren't in `part`. Each column of `part` must be in `all`. This takes less time than `columns_left`.
-#[inline(always)]
-#[tactic(auto, using(crate::proofs::WordLemmas::has_bit_apart))]
-pub(crate) fn columns_apart(all: u64, part: u64) -> u64
-    requires { IsPart (has_bit part) (has_bit all) }
-    ensures { (col : ℕ) → has_bit result col ≡ (has_bit all col && not (has_bit part col)) }
-{
-    all ^ part
 }
 
 /// The columns from one to another, both included. The first must not be after the last, and the last must be less than 63.

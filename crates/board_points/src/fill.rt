@@ -6,7 +6,7 @@ ghost use Rattle.board_points.specs.inner.Fill.{IsFilledBut, IsNext, AreRowsBelo
 ghost use Rattle.board_points.specs.Rows.{IsWithin, has_bit, is_set, IsClosed, Grows};
 ghost use Rattle.board_points.specs.inner.Columns.{IsPart, HasBeside};
 
-use crate::columns::{columns_apart, with_column, without_column};
+use crate::columns::{with_column, without_column};
 
 /// Adds to a set all points that a path within `region` connects to it. This is the plain way to find whole groups or areas.
 ///
@@ -103,6 +103,7 @@ fn give_all(rows: &mut [u64], region: &[u64], flags: u64, direction: Direction) 
 /// A row gives its points to the next row in a direction, which gives those that it takes to the row after it, and so on. `back` has the
 /// rows that can give points back. Returns these and those of the rows that took some that now can.
 #[inline(always)]
+#[tactic(auto, using(crate::proofs::GiveLemmas::has_bit_lacked))]
 fn give(rows: &mut [u64], region: &[u64], first: usize, direction: Direction, back: u64) -> u64
     requires within { IsWithin rows.old region.now }
     requires first { first < length rows.old }
@@ -114,14 +115,15 @@ fn give(rows: &mut [u64], region: &[u64], first: usize, direction: Direction, ba
 {
     let mut row = first;
     let mut given = rows[row];
-    let mut lacks = columns_apart(region[row], given);
+    // the region has all points of the row, so `^` finds what the row lacks of it; `& !` takes longer
+    let mut lacks = region[row] ^ given;
     let mut flags = back;
     'rows: loop {
         let next = direction.next(row);
         if next >= rows.len() {
             return flags;
         }
-        let here = columns_apart(region[next], rows[next]);
+        let here = region[next] ^ rows[next];
         if here & given == 0 {
             return flags;
         }
@@ -169,13 +171,13 @@ pub(crate) fn widened(seed: u64, region: u64) -> (u64, u64)
 {
     // the carry of a sum finds the columns of the region that follow one of the seed without a gap
     let mut word = region & !region.wrapping_add(seed) | seed;
-    let mut left = columns_apart(region, word);
+    let mut left = region ^ word;
     'widen: loop {
         let before = word >> 1 & left;
         if before == 0 {
             return (word, left);
         }
         word |= before;
-        left = columns_apart(left, before);
+        left ^= before;
     }
 }

@@ -8,7 +8,7 @@ ghost use Rattle.board_points.specs.inner.Look.{AreColumnsOff, IsRowAt};
 ghost use Rattle.board_points.specs.Rows.{has_bit, is_set, AreOfOneBoard};
 ghost use Rattle.board_points.specs.inner.Columns.{IsInOrBeside};
 
-use crate::columns::columns_off;
+use crate::columns::all_columns;
 
 /// The columns of a row that have a stone of the player (`own`) or of the opponent (`others`), and those of the 64 that have no free point
 /// (`taken`): a stone is there, or the board has no such column. A row outside the board has no stones, and all columns are taken.
@@ -20,6 +20,7 @@ pub(crate) struct RowStones {
 }
 
 /// The columns in which a row's point has a liberty: a point beside it that is in neither `own` nor `others`.
+#[tactic(auto, using(crate::proofs::WordLemmas::columns_off))]
 pub(crate) fn columns_with_liberty(own: &[u64], others: &[u64], row: usize) -> u64
     requires rows { AreOfOneBoard own.now others.now }
     requires row { row < length own.now }
@@ -27,7 +28,7 @@ pub(crate) fn columns_with_liberty(own: &[u64], others: &[u64], row: usize) -> u
     ensures to { (stone : Point) → stone.row ≡ row → stone.col < 64 → HasLiberty own.now others.now stone
         → IsTrue (has_bit result stone.col) }
 {
-    let off = columns_off(own.len());
+    let off = !all_columns(own.len());
     let above = row_at(own, others, off, row, 1);
     let here = row_at(own, others, off, row, 2);
     let below = row_at(own, others, off, row, 3);

@@ -5,7 +5,7 @@ use Rattle.board_stones.proofs.GridLemmas.{cell_at-with_cell, cell_at-with_cell_
 use Rattle.board_stones.proofs.ReachingLemmas.{Leads-on, Leads-next, path_by_step}
 use Rattle.board_stones.proofs.RuleLemmas.{side-clear, length-clear, cell_at-clear, emptied, kept, others_kept}
 use Rattle.board_stones.proofs.GroupLemmas.{coloured_or_not, stone_of≢Empty, one_colouring}
-use Rattle.board_stones.proofs.LibertyLemmas.{Reaches-liberty, IsWithoutLiberty-shut}
+use Rattle.board_stones.proofs.LibertyLemmas.{Reaches-liberty, AreShutGroups-shut}
 use Rattle.board_stones.proofs.SettledLemmas.{reaches_or_not, clear-AllReach, AllReach-settled}
 
 opponent_differs : (k : Colour) → stone_of k ≢ stone_of (opponent k)
@@ -19,11 +19,8 @@ IsWithoutLiberty-none g k test none = record { stones = λ p _ is. absurd (false
 group_shut : (g : Grid) (k : Colour) (test : Point → Bool) → IsWithoutLiberty g k test → (path : List Point) (p : Point) → IsOn g.side p → test p ≡ true → Leads g (stone_of k) Empty p path → ⊥
 group_shut g k test group [] p on there way = stone_of≢Empty k (sym (group.stones p on there) ∙ way.1)
 group_shut g k test group (q ∷ path) p on there way =
-    let next = Leads-on g (stone_of k) Empty q path way.3 in
-    elim (Leads-next g (stone_of k) Empty q path way.3) [
-      | inl own ↦ group_shut g k test group path q next (group.whole p q on next way.2 there own) way.3
-      | inr free ↦ group.shut p q on next way.2 there free
-    ]
+    let rest = λ (at : IsOn g.side q) (is : test q ≡ true). group_shut g k test group path q at is way.3 in
+    grind (arith, common_steps, Leads-on, Leads-next, group)
 
 -- After a point p of g was coloured and some points were emptied, which gives h: each stone of a colour is in one of some groups
 -- without a liberty or reaches empty, if that holds of the stones beside p and of the one on p.
@@ -240,11 +237,7 @@ AddsGroup-rows g k own others old new p added all is_own is_other asked adds =
       | inl some ↦
           let w = adds.shut some in
           let there = w.3 p ∙ or_right _ _ w.1.start in
-          let group : AreShutGroups g k w.0 = record {
-            all = w.1.all ∙ all;
-            on_grid = λ q is. is_own.off q (w.1.within q is);
-            shut = IsWithoutLiberty-shut g k own others p all is_own is_other _ w.1;
-          } in
+          let group = AreShutGroups-shut g k own others p all is_own is_other w.0 w.1 in
           record {
             adds = record {
               shut = AreShutGroups-both g k old w.0 new asked.shut group w.2 w.3;

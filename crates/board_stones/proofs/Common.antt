@@ -8,7 +8,7 @@ pub use Rattle.std.proofs.lemmas.List.{get_or_past, length-map, length-replicate
 pub use Rattle.std.proofs.lemmas.List.Sums.{count_by-le-length, fold_more, sum_by-cons}
 pub use Rattle.board_points.specs.declared.points.Point.{Point}
 pub use Rattle.board_points.specs.Halves.{AreOthersPaired, ArePaired, high_halves, low_halves}
-pub use Rattle.board_points.specs.Linked.{AddsIfShut, HasLiberty, HaveLiberty, IsFree, IsLiberty, IsShutIn}
+pub use Rattle.board_points.specs.Linked.{AddsIfShut, HasLiberty, HaveLiberty, IsFree, IsLiberty, IsShutIn, IsStone}
 pub use Rattle.board_points.specs.Marking.{is_marked, marked_count, Marking}
 pub use Rattle.board_points.specs.Point.{AreAdjacent, index_of, IsOn, point_at}
 unfoldable pub use Rattle.board_points.specs.Point.{points}

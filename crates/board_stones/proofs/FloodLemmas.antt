@@ -1,5 +1,5 @@
 -- Once no point of a flood waits, exactly what reaches the colour is marked.
-use Rattle.board_stones.proofs.Common.{◌≡◌, ◌⊎◌, inl, inr, List, [], ◌∷◌, length, sym, ap, ◌∙◌, subst, arith, IsTrue, Contains, Point, is_marked, IsOn, Searched, Finds, Cell, Grid, Leads, Reaches, ReachesThrough, IsUnderWay, AreAdjacent-sym}
+use Rattle.board_stones.proofs.Common.{◌≡◌, ◌⊎◌, inl, inr, List, [], ◌∷◌, length, sym, ap, ◌∙◌, subst, arith, common_steps, IsTrue, Contains, Point, is_marked, IsOn, Searched, Finds, Cell, Grid, Leads, Reaches, ReachesThrough, IsUnderWay, AreAdjacent-sym}
 use Rattle.std.proofs.Common.{◌++◌}
 use Rattle.std.proofs.lemmas.List.Elements.{Contains-push_cases}
 use Rattle.board_stones.proofs.ReachingLemmas.{Leads-on, step_kind, path_by_step}
@@ -45,9 +45,5 @@ IsUnderWay-step g k s t u p way on marked cleared same finds = record {
 pub complete : (g : Grid) (k : Cell) (s : Searched) → IsUnderWay g k s → s.waiting ≡ [] → (own : Cell) (p : Point) (path : List Point) → Leads g own k p path → IsTrue (is_marked s.marking p)
 complete g k s way none own p [] leads = way.begun p leads.0 leads.1
 complete g k s way none own p (q ∷ path) leads =
-    let through : ReachesThrough g k q p =
-    (AreAdjacent-sym p q leads.2, elim (step_kind g own k p q path leads) [ inl same ↦ inr (sym same) | inr there ↦ inl there ]) in
-    elim (way.closed q p (Leads-on g own k q path leads.3) leads.0 (complete g k s way none own q path leads.3) through) [
-      | inl waits ↦ absurd (omega (arith, waits.1, ap (λ (l : List Point). length l) none))
-      | inr found ↦ found
-    ]
+    let found = complete g k s way none own q path leads.3 in
+    grind (arith, common_steps, AreAdjacent-sym, step_kind, Leads-on, way)

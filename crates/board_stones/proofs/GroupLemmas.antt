@@ -1,5 +1,5 @@
 -- A group without a liberty can be removed before its colour is cleared: the cleared grid is the same.
-use Rattle.board_stones.proofs.Common.{◌≡◌, ◌≢◌, ◌⊎◌, ℕ, ◌*◌, false, List, [], ◌∷◌, length, get_or, refl, sym, ap, subst, ◌∙◌, arith, true≢false, not_from_Decides, common_steps, Point, IsOn, point_at, Cell, Colour, opponent, stone_of, same_cell, Grid, cell_at, grid_of, Leads, Reaches, Empty, index_of-point_at, IsOn-point_at}
+use Rattle.board_stones.proofs.Common.{◌≡◌, ◌≢◌, ◌⊎◌, ℕ, ◌*◌, false, List, [], ◌∷◌, length, get_or, sym, ap, subst, ◌∙◌, arith, true≢false, not_from_Decides, common_steps, Point, IsOn, point_at, Cell, Colour, opponent, stone_of, same_cell, Grid, cell_at, grid_of, Leads, Reaches, Empty, index_of-point_at, IsOn-point_at}
 use Rattle.board_points.proofs.PointLemmas.{is_map-points}
 use Rattle.board_stones.proofs.GridLemmas.{Decides-same_cell, cell_at-grid_of, length-grid_of}
 
@@ -34,7 +34,4 @@ same_colours side f h each =
 
 -- two colourings of one side with the same on each point are one
 pub one_colouring : (g h : Grid) → g.side ≡ h.side → length g.cells ≡ g.side * g.side → length h.cells ≡ h.side * h.side → ((p : Point) → IsOn g.side p → cell_at g p ≡ cell_at h p) → g ≡ h
-one_colouring g h side all all' each =
-    sym (grid_of-cells g (cell_at g) all (λ p on. refl))
-    ∙ ap (λ n. grid_of n (cell_at g)) side
-    ∙ grid_of-cells h (cell_at g) all' (λ p on. each p (subst (λ n. IsOn n p) (sym side) on))
+one_colouring g h side all all' each = grind (arith, common_steps, grid_of-cells g (cell_at h), grid_of-cells h (cell_at h))

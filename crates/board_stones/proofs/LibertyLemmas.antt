@@ -1,5 +1,5 @@
 -- What the rows of words tell of a grid: whether a stone reaches empty, or its group has no liberty, and which stones of a colour don't reach empty.
-use Rattle.board_stones.proofs.Common.{◌≡◌, Decides, inl, inr, ℕ, ◌≤◌, ◌&&◌, Bool, true, false, not, List, [], ◌∷◌, length, refl, sym, ap, ◌∙◌, arith, subst, ◌<◌, slice_index, and_parts, and_from, false≢true, cases_Bool, common_steps, Point, HaveLiberty, IsFree, HasLiberty, IsLiberty, IsShutIn, IsOn, is_set, IsAmong, IsClosed, Grows, has_bit, AreRowsOf, IsDifference, Cell, Colour, has_unreaching, opponent, stone_of, same_cell, Grid, cell_at, Leads, reaches, Reaches, AllReach, is_shut, IsWithoutLiberty, Empty, AreAdjacent-sym, same_bools}
+use Rattle.board_stones.proofs.Common.{◌≡◌, Decides, Decides-like, IsStone, AreShutGroups, inl, inr, ℕ, ◌≤◌, ◌&&◌, Bool, true, false, not, List, [], ◌∷◌, length, refl, sym, ap, ◌∙◌, arith, subst, ◌<◌, slice_index, and_parts, and_from, false≢true, cases_Bool, common_steps, Point, HaveLiberty, IsFree, HasLiberty, IsLiberty, IsShutIn, IsOn, is_set, IsAmong, IsClosed, Grows, has_bit, AreRowsOf, IsDifference, Colour, has_unreaching, opponent, stone_of, same_cell, Grid, cell_at, Leads, reaches, Reaches, AllReach, is_shut, IsWithoutLiberty, Empty, AreAdjacent-sym, same_bools}
 use Rattle.board_stones.specs.declared.stones.Colour.TheVariants.{Black, White}
 use Rattle.board_stones.proofs.GridLemmas.{Decides-same_cell}
 use Rattle.board_stones.proofs.SettledLemmas.{both_reach, AllReach-settled}
@@ -18,21 +18,33 @@ module _ (g : Grid) (k : Colour) (own others : List ℕ) (from : Point) (all : l
   own_stone : (p : Point) → is_set own p ≡ true → cell_at g p ≡ stone_of k
   own_stone p is = (Decides-same_cell _ _).0 (sym (is_own.on p (is_own.off p is)) ∙ is)
 
-  other_stone : (p : Point) → is_set others p ≡ true → cell_at g p ≡ stone_of (opponent k)
-  other_stone p is = (Decides-same_cell _ _).0 (sym (is_other.on p (is_other.off p is)) ∙ is)
-
   own_set : (p : Point) → IsOn g.side p → cell_at g p ≡ stone_of k → is_set own p ≡ true
   own_set p on stone = is_own.on p on ∙ (Decides-same_cell _ _).1 stone
 
+  -- an empty point has no stone of either colour
+  free : (q : Point) → IsOn g.side q → cell_at g q ≡ Empty → IsFree own others q
+  free q at empty = grind (arith, common_steps, is_own.on, is_other.on)
+
   -- a group beside which each point has a stone has no liberty
-  pub IsWithoutLiberty-shut : (group : List ℕ) → IsShutIn own others from group → IsWithoutLiberty g k (λ p. is_set group p)
+  IsWithoutLiberty-shut : (group : List ℕ) → IsShutIn own others from group → IsWithoutLiberty g k (λ p. is_set group p)
   IsWithoutLiberty-shut group shut = record {
     stones = λ p on is. own_stone p (shut.within p is);
-    shut = λ p q on at adjacent is empty.
-        let not_own = elim (cases_Bool (is_set own q)) as (λ _. is_set own q ≡ false) [ inl own_q ↦ absurd (stone_of≢Empty k (sym (own_stone q own_q) ∙ empty)) | inr out ↦ out ] in
-        let not_other = elim (cases_Bool (is_set others q)) as (λ _. is_set others q ≡ false) [ inl other_q ↦ absurd (stone_of≢Empty (opponent k) (sym (other_stone q other_q) ∙ empty)) | inr out ↦ out ] in
-        shut.shut p is (q, (subst (λ n. IsOn n q) (sym all) at, not_own, not_other), AreAdjacent-sym p q adjacent);
+    shut = λ p q on at adjacent is empty. shut.shut p is (q, free q at empty, AreAdjacent-sym p q adjacent);
     whole = λ p q on at adjacent is stone_q. shut.closed q p (AreAdjacent-sym p q adjacent) (own_set q at stone_q) is;
+  }
+
+  pub AreShutGroups-shut : (group : List ℕ) → IsShutIn own others from group → AreShutGroups g k group
+  AreShutGroups-shut group shut = record {
+    all = shut.all ∙ all;
+    on_grid = λ p is. is_own.off p (shut.within p is);
+    shut = IsWithoutLiberty-shut group shut;
+  }
+
+  pub IsStone-rows : g.side ≤ 52 → length others ≡ g.side → IsOn g.side from → cell_at g from ≡ stone_of k → IsStone own others from
+  IsStone-rows small all_others on stone = record {
+    rows = record { same = all_others ∙ sym all; few = omega arith };
+    on_board = subst (λ n. IsOn n from) (sym all) on;
+    there = own_set from on stone;
   }
 
   -- the own stones that don't reach empty
@@ -72,15 +84,8 @@ columns_at g k d rows n row colour at below are = rw (colour, at) (
 )
 
 -- the rows of a colour, by another word
-pub rows_of_colour : (g : Grid) (k d : Colour) (rows : List ℕ) → d ≡ k → AreRowsOf g.side (λ p. same_cell (cell_at g p) (stone_of k)) rows → AreRowsOf g.side (λ p. same_cell (cell_at g p) (stone_of d)) rows
-rows_of_colour g k d rows is are = subst (λ c. AreRowsOf g.side (λ p. same_cell (cell_at g p) (stone_of c)) rows) (sym is) are
-
--- the rows of the other colour
-pub rows_of_opponent : (g : Grid) (k d : Colour) (rows : List ℕ) → d ≡ opponent k → AreRowsOf g.side (λ p. same_cell (cell_at g p) (stone_of d)) rows → AreRowsOf g.side (λ p. same_cell (cell_at g p) (stone_of (opponent k))) rows
-rows_of_opponent g k d rows is are = subst (λ c. AreRowsOf g.side (λ p. same_cell (cell_at g p) (stone_of c)) rows) is are
-
-empty_apart : (k : Colour) (c : Cell) → c ≡ Empty → same_cell c (stone_of k) ≡ false
-empty_apart k c is = grind (arith, common_steps)
+pub rows_of_colour : (g : Grid) (k d : Colour) (rows : List ℕ) → k ≡ d → AreRowsOf g.side (λ p. same_cell (cell_at g p) (stone_of k)) rows → AreRowsOf g.side (λ p. same_cell (cell_at g p) (stone_of d)) rows
+rows_of_colour g k d rows is are = subst (λ c. AreRowsOf g.side (λ p. same_cell (cell_at g p) (stone_of c)) rows) is are
 
 of_own : (own way : Bool) → (own && not (own && way)) ≡ (own && not way)
 of_own own way = grind (arith, common_steps)
@@ -121,24 +126,14 @@ module _ (g : Grid) (k : Colour) (rows others first : List ℕ) (small : g.side 
       along : (p : Point) (path : List Point) → is_set rows p ≡ true → Leads g (stone_of k) Empty p path → is_set reached p ≡ true
       along p [] own way = absurd (stone_of≢Empty k (sym (stone_there p own) ∙ way.1))
       along p (q ∷ []) own way =
-          let at = way.3.0 in
-          let free : IsFree rows others q = (subst (λ n. IsOn n q) (sym all) at, is_own.on q at ∙ empty_apart k (cell_at g q) way.3.1, is_other.on q at ∙ empty_apart (opponent k) (cell_at g q) way.3.1) in
-          grows.kept p (alive.to p (omega (arith, (is_own.off p own).0, small)) own (q, free, AreAdjacent-sym p q way.2))
+          let is_free = free g k rows others p all is_own is_other q way.3.0 way.3.1 in
+          grows.kept p (alive.to p (omega (arith, (is_own.off p own).0, small)) own (q, is_free, AreAdjacent-sym p q way.2))
       along p (q ∷ r ∷ path) own way =
           closed p q way.2 own (along q (r ∷ path) (is_own.on q way.3.0 ∙ (Decides-same_cell _ _).1 way.3.1) way.3)
 
       reached_is : (p : Point) → IsOn g.side p → is_set reached p ≡ (same_cell (cell_at g p) (stone_of k) && reaches g Empty p)
       unfolding reaching
-      reached_is p on =
-          same_bools _ _
-          (λ is.
-          let both = and_parts _ _ (grows.least reaching reaching_closed first_reaches p is) in
-          and_from _ _ (sym (is_own.on p on) ∙ both.0) both.1)
-          (λ is.
-          let both = and_parts _ _ is in
-          let own : is_set rows p ≡ true = is_own.on p on ∙ both.0 in
-          let way = (Decides-reaches g Empty p on).0 both.1 in
-          along p way.0 own (subst (λ c. Leads g c Empty p way.0) (stone_there p own) way.1))
+      reached_is p on = grind (arith, common_steps, same_bools, and_parts, and_from, Decides-reaches, along, grows.least reaching reaching_closed first_reaches)
 
       pub shut_left : AreRowsOf g.side (is_shut g k) left
       shut_left = grind (arith, common_steps, of_own, reached_is)
@@ -150,18 +145,18 @@ module _ (g : Grid) (k : Colour) (rows others first : List ℕ) (small : g.side 
         in_the_other _ _ there (sym (is_left.on p (omega (arith, on.1, all)) (omega (arith, on.0, small))) ∙ none p)
 
 -- where no stone is shut in, all reach empty
-pub reach_where_none_shut : (g : Grid) (k : Colour) (shut : List ℕ) → AreRowsOf g.side (is_shut g k) shut → ((p : Point) → is_set shut p ≡ false) → AllReach g k
+reach_where_none_shut : (g : Grid) (k : Colour) (shut : List ℕ) → AreRowsOf g.side (is_shut g k) shut → ((p : Point) → is_set shut p ≡ false) → AllReach g k
 reach_where_none_shut g k shut are none = grind (arith, common_steps, Decides-reaches, Decides-same_cell, in_the_other)
 
-pub none_shut : (g : Grid) (k : Colour) (shut : List ℕ) → AreRowsOf g.side (is_shut g k) shut → AllReach g k → (p : Point) → is_set shut p ≡ false
+none_shut : (g : Grid) (k : Colour) (shut : List ℕ) → AreRowsOf g.side (is_shut g k) shut → AllReach g k → (p : Point) → is_set shut p ≡ false
 none_shut g k shut are each p = grind (arith, common_steps, Decides-reaches, Decides-same_cell, and_parts)
+
+-- whether all stones of a colour reach empty, by the rows of those that don't
+pub Decides-AllReach : (g : Grid) (k : Colour) (shut : List ℕ) (none : Bool) → AreRowsOf g.side (is_shut g k) shut → Decides none ((p : Point) → is_set shut p ≡ false) → Decides none (AllReach g k)
+Decides-AllReach g k shut none are is = Decides-like none (reach_where_none_shut g k shut are) (none_shut g k shut are) is
 
 -- some stone doesn't reach empty where not all of both colours do
 pub unreaching_is : (g : Grid) (black white : Bool) → Decides black (AllReach g Black) → Decides white (AllReach g White) → not (black && white) ≡ has_unreaching g
 unreaching_is g true true for_black for_white = sym (both_reach g Black (for_black.0 refl) (for_white.0 refl))
-unreaching_is g false white for_black for_white =
-    elim (cases_Bool (has_unreaching g))
-    [ inl some ↦ sym some | inr none ↦ absurd (false≢true (for_black.1 (AllReach-settled g Black none))) ]
-unreaching_is g true false for_black for_white =
-    elim (cases_Bool (has_unreaching g))
-    [ inl some ↦ sym some | inr none ↦ absurd (false≢true (for_white.1 (AllReach-settled g White none))) ]
+unreaching_is g false white for_black for_white = grind (arith, common_steps, AllReach-settled g Black, cases_Bool)
+unreaching_is g true false for_black for_white = grind (arith, common_steps, AllReach-settled g White, cases_Bool)

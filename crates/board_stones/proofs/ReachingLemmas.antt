@@ -1,5 +1,5 @@
 -- The function `reaches` and the paths: they agree at each point of the grid.
-use Rattle.board_stones.proofs.Common.{◌≡◌, ◌⊎◌, inl, inr, ℕ, ◌+◌, ◌*◌, ◌<◌, Bool, true, false, List, [], ◌∷◌, length, get_or, refl, sym, ap, subst, ◌∙◌, arith, Decides, cond, Decides-and, Decides-or, Decides-at, Decides-like, common_steps, count_by-le-length, sum_by-cons, Point, Marking, is_marked, IsOn, AreAdjacent, point_at, Cell, same_cell, Grid, cell_at, Leads, Reaches, leads_on, spread, reaching_within, reaches, Decides-some_point, index_of-point_at, IsOn-point_at}
+use Rattle.board_stones.proofs.Common.{◌≡◌, ◌⊎◌, inl, inr, ℕ, ◌*◌, ◌<◌, Bool, true, false, List, [], ◌∷◌, length, get_or, refl, sym, ap, subst, ◌∙◌, arith, Decides, Decides-and, Decides-or, Decides-at, Decides-like, common_steps, count_by-le-length, sum_by-cons, Point, Marking, is_marked, IsOn, AreAdjacent, point_at, Cell, same_cell, Grid, cell_at, Leads, Reaches, leads_on, spread, reaching_within, reaches, Decides-some_point, index_of-point_at, IsOn-point_at}
 use Rattle.std.proofs.Common.{zero, suc, count_by}
 use Rattle.board_points.proofs.PointLemmas.{Decides-are_adjacent}
 use Rattle.board_stones.proofs.GridLemmas.{Decides-same_cell}
@@ -65,27 +65,17 @@ IsWithin xs ys = (i : ℕ) → i < length xs → get_or xs i false ≡ true → 
 abbrev marks_in : List Bool → ℕ
 marks_in xs = count_by (λ b. b) xs
 
-marks_in-true : (xs : List Bool) → marks_in (true ∷ xs) ≡ 1 + marks_in xs
-marks_in-true xs = sum_by-cons (λ b. cond b 1 0) true xs
-
-marks_in-false : (xs : List Bool) → marks_in (false ∷ xs) ≡ marks_in xs
-marks_in-false xs = omega (arith, sum_by-cons (λ b. cond b 1 0) false xs)
+-- of two lists with one more mark each, or with none
+one_longer : (x y : Bool) (xs ys : List Bool) → (x ≡ true → y ≡ true) → (xs ≡ ys) ⊎ (marks_in xs < marks_in ys) → (x ∷ xs ≡ y ∷ ys) ⊎ (marks_in (x ∷ xs) < marks_in (y ∷ ys))
+one_longer x y xs ys on rest = grind (arith, common_steps, sum_by-cons)
 
 same_or_more : (xs ys : List Bool) → length xs ≡ length ys → IsWithin xs ys → (xs ≡ ys) ⊎ (marks_in xs < marks_in ys)
 unfolding IsWithin
 same_or_more [] [] e h = inl refl
 same_or_more [] (y ∷ ys) e h = absurd (omega arith)
 same_or_more (x ∷ xs) [] e h = absurd (omega arith)
-same_or_more (true ∷ xs) (true ∷ ys) e h =
-    let rest : (xs ≡ ys) ⊎ (marks_in xs < marks_in ys) = same_or_more xs ys (omega arith) (λ i b. h (suc i) (omega arith)) in
-    elim rest [ inl same ↦ inl (ap (λ l. true ∷ l) same) | inr more ↦ inr (omega (arith, marks_in-true xs, marks_in-true ys)) ]
-same_or_more (true ∷ xs) (false ∷ ys) e h = let no : false ≡ true = h 0 (omega arith) refl in cc
-same_or_more (false ∷ xs) (true ∷ ys) e h =
-    let rest : (xs ≡ ys) ⊎ (marks_in xs < marks_in ys) = same_or_more xs ys (omega arith) (λ i b. h (suc i) (omega arith)) in
-    elim rest [ inl same ↦ inr (omega (arith, ap marks_in same, marks_in-true ys, marks_in-false xs)) | inr more ↦ inr (omega (arith, marks_in-true ys, marks_in-false xs)) ]
-same_or_more (false ∷ xs) (false ∷ ys) e h =
-    let rest : (xs ≡ ys) ⊎ (marks_in xs < marks_in ys) = same_or_more xs ys (omega arith) (λ i b. h (suc i) (omega arith)) in
-    elim rest [ inl same ↦ inl (ap (λ l. false ∷ l) same) | inr more ↦ inr (omega (arith, marks_in-false xs, marks_in-false ys)) ]
+same_or_more (x ∷ xs) (y ∷ ys) e h =
+    one_longer x y xs ys (h 0 (omega arith)) (same_or_more xs ys (omega arith) (λ i b. h (suc i) (omega arith)))
 
 same_marking : (a b : Marking) → a.side ≡ b.side → a.marks ≡ b.marks → a ≡ b
 same_marking a b e f = ap (λ s. record { side = s; marks = a.marks }) e ∙ ap (λ m. record { side = b.side; marks = m }) f
@@ -132,11 +122,7 @@ module _ (g : Grid) (k : Cell) where
   settles : (n : ℕ) → Settles n
   unfolding Settles reaching_within
   settles zero = elim (compared zero) [ inl same ↦ inl (settled_by zero same) | inr more ↦ inr (omega arith) ]
-  settles (suc n) =
-      elim (settles n) [
-        | inl done ↦ inl (ap (spread g k) done)
-        | inr many ↦ elim (compared (suc n)) [ inl same ↦ inl (settled_by (suc n) same) | inr more ↦ inr (omega arith) ]
-      ]
+  settles (suc n) = grind (arith, common_steps, compared (suc n), settled_by (suc n), settles n)
 
   settled : reaching_within g k (suc (g.side * g.side)) ≡ reaching_within g k (g.side * g.side)
   unfolding Settles

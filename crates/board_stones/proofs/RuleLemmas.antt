@@ -1,5 +1,5 @@
 -- Clearing, stones that don't reach empty, and the points that count for a player, by paths.
-use Rattle.board_stones.proofs.Common.{◌≡◌, ◌≢◌, ◌*◌, Bool, true, false, not, ◌&&◌, cond, length, refl, Decides, arith, false_from_ne_true, Decides-and, Decides-or, Decides-not, Decides-like, common_steps, Point, IsOn, Cell, Colour, cleared_cell, clear, HasUnreaching, has_unreaching, stone_of, Grid, cell_at, Reaches, CountsFor, counts_for, Empty, Decides-some_point}
+use Rattle.board_stones.proofs.Common.{◌≡◌, ◌≢◌, ◌*◌, Bool, false, ◌&&◌, length, refl, Decides, arith, false_from_ne_true, Decides-and, Decides-or, Decides-not, Decides-like, common_steps, Point, IsOn, Colour, cleared_cell, clear, HasUnreaching, has_unreaching, stone_of, Grid, cell_at, Reaches, CountsFor, counts_for, Empty, Decides-some_point}
 use Rattle.board_stones.proofs.GridLemmas.{Decides-same_cell, cell_at-grid_of, length-grid_of}
 use Rattle.board_stones.proofs.ReachingLemmas.{Decides-reaches}
 
@@ -15,31 +15,21 @@ pub cell_at-clear : (g : Grid) (k : Colour) (p : Point) → IsOn g.side p → ce
 unfolding clear
 cell_at-clear g k p on = cell_at-grid_of g.side (cleared_cell g k) p on
 
--- a point is emptied where both tests say so
-emptied_by : (a b : Bool) (c : Cell) → a ≡ true → b ≡ false → cond (a && not b) Empty c ≡ Empty
-emptied_by a b c e f = rw (e, f)
-
-kept_by_second : (a b : Bool) (c : Cell) → b ≡ true → cond (a && not b) Empty c ≡ c
-kept_by_second a b c f = grind (arith, common_steps)
-
-kept_by_first : (a b : Bool) (c : Cell) → a ≡ false → cond (a && not b) Empty c ≡ c
-kept_by_first a b c e = rw e
-
 -- a test of what does not hold is false
 pub false_from_Decides : {P : Type 0} (b : Bool) → Decides b P → (¬ P) → b ≡ false
 false_from_Decides b d against = false_from_ne_true b (λ is. against (d.0 is))
 
 pub emptied : (g : Grid) (k : Colour) (p : Point) → IsOn g.side p → cell_at g p ≡ stone_of k → (¬ (Reaches g Empty p)) → cleared_cell g k p ≡ Empty
 unfolding cleared_cell
-emptied g k p on stone shut = grind (arith, common_steps, Decides-reaches, Decides-same_cell, emptied_by, false_from_Decides)
+emptied g k p on stone shut = grind (arith, common_steps, Decides-reaches, Decides-same_cell, false_from_Decides)
 
 pub kept : (g : Grid) (k : Colour) (p : Point) → IsOn g.side p → Reaches g Empty p → cleared_cell g k p ≡ cell_at g p
 unfolding cleared_cell
-kept g k p on way = kept_by_second _ _ _ ((Decides-reaches g Empty p on).1 way)
+kept g k p on way = grind (arith, common_steps, Decides-reaches)
 
 pub others_kept : (g : Grid) (k : Colour) (p : Point) → cell_at g p ≢ stone_of k → cleared_cell g k p ≡ cell_at g p
 unfolding cleared_cell
-others_kept g k p other = kept_by_first _ _ _ (false_from_Decides _ (Decides-same_cell _ _) other)
+others_kept g k p other = grind (arith, common_steps, Decides-same_cell, false_from_Decides)
 
 pub Decides-has_unreaching : (g : Grid) → Decides (has_unreaching g) (HasUnreaching g)
 unfolding has_unreaching

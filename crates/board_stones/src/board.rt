@@ -19,7 +19,7 @@ pub(crate) mod regions;
 use crate::stones::{Cell, Colour};
 use board_points::columns::{columns_left, has_column, with_column};
 use board_points::quick::halves::HALF;
-use board_points::rows::{count_apart, no_rows};
+use board_points::rows::{count_apart, is_none, no_rows};
 use board_points::{MAX_POINTS, MAX_ROWS, Point, Size};
 use std::marker::Model;
 
@@ -230,7 +230,6 @@ impl Board {
 
     /// Clears a colour (Tromp-Taylor): captures its groups without a liberty. Empties all points of the colour that don't reach empty,
     /// each tested on the board as it was.
-    #[tactic(auto, using(crate::proofs::SweepLemmas::without_shut, crate::proofs::StoneRowsLemmas::all_cells))]
     pub fn clear(&mut self, colour: Colour)
         ensures value { self.new ≡ clear self.old colour }
         ensures side { self.new.side ≡ self.old.side }
@@ -245,7 +244,6 @@ impl Board {
     /// opponent's colour is cleared, which is capture, and then the player's own, which is suicide.
     ///
     /// This is the plain way. `PrintPast` finds what a stone clears near the stone alone (`find_cleared`).
-    #[tactic(auto, unfolding(crate::specs::Clearing::play))]
     pub fn place(&mut self, colour: Colour, point: Point)
         requires on_board { IsOn self.old.side point }
         requires empty { cell_at self.old point ≡ Empty }
@@ -278,15 +276,17 @@ impl Board {
     }
 
     /// Whether some stone doesn't reach empty. A setup can leave such a stone.
-    #[tactic(auto, using(crate::proofs::LibertyLemmas::unreaching_is))]
     pub fn has_unreaching(&self) -> bool
         ensures { result ≡ has_unreaching self.now }
     {
         if self.settled {
             return false;
         }
-        let black_reach = self.all_reach(Colour::Black);
-        let white_reach = self.all_reach(Colour::White);
-        !(black_reach & white_reach)
+        let mut words = no_rows();
+        let shut = &mut words[..usize::from(self.size.side())];
+        self.shut_stones(Colour::Black, shut);
+        let black_reach = is_none(shut);
+        self.shut_stones(Colour::White, shut);
+        !(black_reach & is_none(shut))
     }
 }

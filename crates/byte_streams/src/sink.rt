@@ -1,7 +1,7 @@
 //! Where the bytes of a run go: the trait `Sink`, two sinks over a writer, one of which holds bytes back, and a sink over an array.
 
 ghost use Rattle.std.specs.Prelude.{◌≡◌, ◌<◌, ◌≤◌, ◌+◌, ◌++◌, [], length, take, drop, vec_len, vec_capacity, Some, IfOk, IfSome, OnErr, OnOk};
-ghost use Rattle.std.specs.Io.KnownBytes.{Appends, append_known};
+ghost use Rattle.std.specs.Io.KnownBytes.{append_known};
 ghost use Rattle.std.proofs.KnownBytes.{Appends-nil};
 ghost use Rattle.byte_streams.specs.Streams.{SinkState, IsPut, IsFlush, DeliversFront, PutsAll};
 ghost use Rattle.byte_streams.specs.inner.HeldBack.{held_back};
@@ -180,11 +180,16 @@ impl<W: Write + Drop> BufferedSink<W> {
         ensures out { IsFlush (⟦<BufferedSink<W> as Sink>⟧.state self.old) (⟦<BufferedSink<W> as Sink>⟧.state self.new) result }
         ensures empty { OnOk result (self.new.buffer.items ≡ []) }
     {
-        let handed = write_whole(&self.buffer, &mut self.writer);
-        if handed < self.buffer.len() {
-            self.handed = handed;
-            self.failures = 1;
-            return Err(SinkFault);
+        let mut handed = 0;
+        'writes: while handed < self.buffer.len() {
+            match self.writer.write(&self.buffer[handed..]) {
+                Ok(0) | Err(_) => {
+                    self.handed = handed;
+                    self.failures = 1;
+                    return Err(SinkFault);
+                }
+                Ok(count) => handed += count,
+            }
         }
         self.buffer.clear();
         Ok(())
@@ -331,19 +336,4 @@ pub fn put_all<T: Sink>(bytes: &[u8], sink: &mut T) -> Result<(), SinkFault>
         done += sink.put(&bytes[done..])?;
     }
     Ok(())
-}
-
-/// Writes bytes, with one write after another, until all are written or a write fails. Returns how many were written.
-fn write_whole<W: Write>(bytes: &[u8], writer: &mut W) -> usize
-    ensures within { result ≤ length bytes.now }
-    ensures bytes { Appends (W.contents writer.old) (W.contents writer.new) (take result bytes.now) }
-{
-    let mut done = 0;
-    'writes: while done < bytes.len() {
-        match writer.write(&bytes[done..]) {
-            Ok(0) | Err(_) => return done,
-            Ok(count) => done += count,
-        }
-    }
-    done
 }

@@ -1,6 +1,6 @@
 -- What the proofs of this crate import together: words of specs, types, and lemmas of the standard library.
 pub use Rattle.std.proofs.lemmas.List.{get_or-reverse, length-reverse, reverse-append}
-pub use Rattle.std.proofs.Common.{[], ap, arith, Bool, cond, Contains, Decides, Err, false, fold, get_or, inl, inr, IsErrOf, IsTrue, length, length-append, List, None, Ok, OnErr, Option, refl, Result, reverse, rules, slice_index_or, Some, subst, suc, sym, true, unwrap_or, ℕ, ◌++◌, ◌+◌, ◌-◌, ◌<◌, ◌↔◌, ◌∙◌, ◌∷◌, ◌≡◌, ◌≤◌}
+pub use Rattle.std.proofs.Common.{[], ap, arith, Bool, cond, Contains, Decides, Err, false, get_or, IsErrOf, IsTrue, length, length-append, List, None, Ok, OnErr, Option, refl, Result, reverse, rules, slice_index_or, Some, subst, suc, sym, true, ℕ, ◌++◌, ◌+◌, ◌-◌, ◌<◌, ◌↔◌, ◌∙◌, ◌∷◌, ◌≡◌, ◌≤◌}
 pub use Rattle.std.proofs.lemmas.Grind.{common_steps}
 pub use Rattle.std.proofs.lemmas.Bool.{false≢true}
 pub use Rattle.std.specs.Int.{from_bool}
@@ -17,5 +17,5 @@ pub use Rattle.go_board.specs.declared.reason.Reason.TheVariants.{BadPoint, BadS
 pub use Rattle.go_board.specs.declared.referee.Earlier.{Earlier}
 pub use Rattle.go_board.specs.declared.referee.plays.Play.TheVariants.{Stone}
 pub use Rattle.go_board.specs.Reason.{Forbids, is_occupied, is_repeat, IsFirstReason, must_move, rank_of, reason_of, same_grid}
-pub use Rattle.go_board.specs.State.{begun, HadSameBoardSince, is_over, set_up, starting, State, States}
+pub use Rattle.go_board.specs.State.{begun, followed_by, HadSameBoardSince, is_over, set_up, State, States}
 pub use Rattle.go_board.specs.inner.Earlier.{grew, IsRefereeKept, MayOnlyRepeat, past_before, past_of_older, state_of, states_before, states_of, turn_count, turned, turns_before}

@@ -1,5 +1,5 @@
 -- A referee has as many earlier states as it keeps something of.
-use Rattle.go_board.proofs.Common.{◌≡◌, ℕ, suc, ◌+◌, ◌-◌, ◌<◌, ◌≤◌, get_or, Bool, true, false, cond, List, [], ◌∷◌, ◌++◌, length, length-append, reverse, refl, sym, ap, subst, ◌∙◌, arith, get_or-reverse, length-reverse, reverse-append, Grid, empty_grid, Held, PastColourings, newest_grid, only, with_next, AllHaveSide, HaveSide, Earlier, State, HadSameBoardSince, begun, starting, grew, past_before, past_of_older, states_before, turns_before, turn_count, state_of, states_of, IsRefereeKept, Call, from_bool, turned}
+use Rattle.go_board.proofs.Common.{◌≡◌, ℕ, suc, ◌+◌, ◌-◌, ◌<◌, ◌≤◌, get_or, Bool, true, false, cond, List, [], ◌∷◌, ◌++◌, length, length-append, reverse, refl, sym, ap, ◌∙◌, arith, get_or-reverse, length-reverse, reverse-append, Grid, empty_grid, Held, PastColourings, newest_grid, only, with_next, AllHaveSide, HaveSide, Earlier, State, HadSameBoardSince, begun, grew, past_before, past_of_older, states_before, turns_before, turn_count, state_of, states_of, followed_by, IsRefereeKept, Call, from_bool, turned}
 use Rattle.go_board.specs.declared.referee.Call.TheVariants.{Stay}
 use Rattle.go_board.specs.declared.referee.Mover.{Mover}
 
@@ -44,19 +44,11 @@ module _ (past : PastColourings) (mover : Mover) (turns : ℕ) (earlier : List E
 
   -- what a referee keeps then
   pub IsRefereeKept-grown : IsRefereeKept past mover turns (reverse earlier) → (now : PastColourings) (made : Grid) (begins : Bool) (next : Mover) (earlier' : List Earlier) → now ≡ with_next past made begins → made.side ≡ (newest_grid past).side → earlier' ≡ earlier ++ saved ∷ [] → IsRefereeKept now next turns' (reverse earlier')
-  IsRefereeKept-grown kept now made begins next earlier' is side longer =
-      rw (is, longer, reverse-append earlier (saved ∷ []))
-      (record {
-        one_side = (refl, subst (λ n. HaveSide n past) (sym side) kept.one_side);
-        enough = rw grown_by (omega (arith, kept.enough));
-        few_turns = few (turned call) more;
-        counted = sym (more ∙ ap (λ n. from_bool (turned call) + n) (sym kept.counted));
-        from_start = rw (grown_by, less) (kept.from_start ∙ ap starting (sym side));
-      })
-    where
-      few : (b : Bool) → turns' ≡ from_bool b + turns → turns' ≤ suc (length (reverse earlier))
-      few true e = omega (arith, kept.few_turns)
-      few false e = omega (arith, kept.few_turns)
+  IsRefereeKept-grown kept now made begins next earlier' is side longer = grind (arith, reverse-append, less)
+
+  -- and the states that it is seen as
+  pub states_of-grown : (now : PastColourings) (made : Grid) (begins : Bool) (next : Mover) (earlier' : List Earlier) → now ≡ with_next past made begins → earlier' ≡ earlier ++ saved ∷ [] → states_of now next turns' earlier' ≡ followed_by (states_of past mover turns earlier) (state_of (with_next past made begins) next turns')
+  states_of-grown now made begins next earlier' is longer = rw (is, longer, reverse-append earlier (saved ∷ []), grown_by, less) refl
 
 -- at the beginning of a game: a past of the empty board alone, and no earlier states
 module _ (side : ℕ) (past : PastColourings) (earlier : List Earlier) (is : past ≡ only (empty_grid side)) (none : earlier ≡ []) where

@@ -1,5 +1,5 @@
 -- What the tests on turns say.
-use Rattle.go_board.proofs.Common.{◌≡◌, ℕ, Bool, false, inl, inr, ◌↔◌, List, [], ◌∷◌, Option, Some, None, Contains, IsTrue, refl, sym, ap, cond, arith, unwrap_or, ◌<◌, ◌+◌, slice_index_or, subst, Decides, Result, OnErr, IsErrOf, Ok, Err, Colour, play, Grid, Illegal, Reason, Mixed, TwoMoves, BadSetup, BadPoint, Over, Turn, Occupied, Repeat, Stone, must_move, is_occupied, is_repeat, same_grid, reason_of, Forbids, IsFirstReason, rank_of, State, is_over, set_up, MayOnlyRepeat, side_play, side-with_rectangles}
+use Rattle.go_board.proofs.Common.{◌≡◌, ℕ, Bool, false, ◌↔◌, List, [], ◌∷◌, Option, Some, None, Contains, IsTrue, refl, sym, cond, arith, ◌<◌, ◌+◌, slice_index_or, Decides, Result, OnErr, IsErrOf, Ok, Err, Colour, play, Grid, Illegal, Reason, Mixed, TwoMoves, BadSetup, BadPoint, Over, Turn, Occupied, Repeat, Stone, must_move, is_occupied, is_repeat, same_grid, reason_of, Forbids, IsFirstReason, rank_of, State, is_over, set_up, MayOnlyRepeat, side_play, side-with_rectangles}
 use Rattle.std.specs.List.{list_any}
 use Rattle.std.proofs.lemmas.Bool.{false≢true, cases_lt, cases_Bool}
 use Rattle.std.proofs.lemmas.Bool.Decides.{Decides-by_or, Decides-and, Decides-not, Decides-like, Decides-eqb, same_from_decides, not_from_Decides}
@@ -88,51 +88,16 @@ module _ (s : State) (k : Colour) (x : Play) where
     none_before_repeat e f g = none_up_to 6 (not_from_Decides b3 occupied g) (none_before_occupied e f)
 
     named_by_tests : (r : Reason) → IsFirstReason s k x r → cond b1 (Some Over) (cond b2 (Some Turn) (cond b3 (Some Occupied) (cond b4 (Some Repeat) None))) ≡ Some r
-    named_by_tests Mixed h = absurd h.holds
-    named_by_tests TwoMoves h = absurd h.holds
-    named_by_tests BadSetup h = absurd h.holds
-    named_by_tests BadPoint h = absurd h.holds
-    named_by_tests Over h = rw (over.1 h.holds) refl
-    named_by_tests Turn h =
-        rw (false_from_Decides b1 over (h.first Over (omega arith)), turn.1 h.holds) refl
-    named_by_tests Occupied h =
-        rw (false_from_Decides b1 over (h.first Over (omega arith)), false_from_Decides b2 turn (h.first Turn (omega arith)), occupied.1 h.holds) refl
-    named_by_tests Repeat h =
-        rw (false_from_Decides b1 over (h.first Over (omega arith)), false_from_Decides b2 turn (h.first Turn (omega arith)), false_from_Decides b3 occupied (h.first Occupied (omega arith)), repeat.1 h.holds) refl
+    named_by_tests r h = grind (arith, false_from_Decides, h.first Over, h.first Turn, h.first Occupied)
 
     first_by_tests : (r : Reason) → cond b1 (Some Over) (cond b2 (Some Turn) (cond b3 (Some Occupied) (cond b4 (Some Repeat) None))) ≡ Some r → IsFirstReason s k x r
-    first_by_tests r e =
-        elim (cases_Bool b1) [
-          | inl t1 ↦ named Over (rw t1 at e) (record { holds = over.0 t1; first = never_before s k x })
-          | inr f1 ↦ elim (cases_Bool b2) [
-            | inl t2 ↦ named Turn (rw (f1, t2) at e) (record { holds = turn.0 t2; first = none_before_turn f1 })
-            | inr f2 ↦ elim (cases_Bool b3) [
-              | inl t3 ↦ named Occupied (rw (f1, f2, t3) at e) (record { holds = occupied.0 t3; first = none_before_occupied f1 f2 })
-              | inr f3 ↦ elim (cases_Bool b4) [
-                | inl t4 ↦ named Repeat (rw (f1, f2, f3, t4) at e) (record { holds = repeat.0 t4; first = none_before_repeat f1 f2 f3 })
-                | inr f4 ↦ absurd (none_is_some (rw (f1, f2, f3, f4) at e))
-              ]
-            ]
-          ]
-        ]
-      where
-        named : (q : Reason) → Some q ≡ Some r → IsFirstReason s k x q → IsFirstReason s k x r
-        named q same h = subst (IsFirstReason s k x) (ap (λ o. unwrap_or o q) same) h
+    first_by_tests r e = grind (arith, never_before s k x, none_before_turn, none_before_occupied, none_before_repeat, cases_Bool)
 
-        none_is_some : None ≡ Some r → ⊥
-        none_is_some h = absurd (cc)
+    none_holds : cond b1 (Some Over) (cond b2 (Some Turn) (cond b3 (Some Occupied) (cond b4 (Some Repeat) None))) ≡ None → (q : Reason) → ¬ Forbids s k x q
+    none_holds e q = grind (arith, rank_below q, none_up_to 7, none_before_repeat, not_from_Decides)
 
-    all_false : (c1 c2 c3 c4 : Bool) → cond c1 (Some Over) (cond c2 (Some Turn) (cond c3 (Some Occupied) (cond c4 (Some Repeat) None))) ≡ None → (c1 ≡ false) × (c2 ≡ false) × (c3 ≡ false) × (c4 ≡ false)
-    all_false c1 c2 c3 c4 e = grind arith
-
-    none_by_tests : cond b1 (Some Over) (cond b2 (Some Turn) (cond b3 (Some Occupied) (cond b4 (Some Repeat) None))) ≡ None ↔ ((q : Reason) → ¬ Forbids s k x q)
-    none_by_tests = (
-      λ e q.
-          let none = all_false b1 b2 b3 b4 e in
-          none_up_to 7 (not_from_Decides b4 repeat none.3) (none_before_repeat none.0 none.1 none.2) q (rank_below q),
-      λ none.
-          rw (false_from_Decides b1 over (none Over), false_from_Decides b2 turn (none Turn), false_from_Decides b3 occupied (none Occupied), false_from_Decides b4 repeat (none Repeat)) refl,
-    )
+    none_named : ((q : Reason) → ¬ Forbids s k x q) → cond b1 (Some Over) (cond b2 (Some Turn) (cond b3 (Some Occupied) (cond b4 (Some Repeat) None))) ≡ None
+    none_named none = grind (arith, none Over, none Turn, none Occupied, none Repeat)
 
 -- the first reason that the tests name is the first that holds
 pub first_reason : (s : State) (k : Colour) (x : Play) (r : Reason) → (reason_of s k x ≡ Some r) ↔ IsFirstReason s k x r
@@ -146,7 +111,11 @@ first_reason s k x r =
 -- and they name none exactly if none holds
 pub no_reason : (s : State) (k : Colour) (x : Play) → (reason_of s k x ≡ None) ↔ ((r : Reason) → ¬ Forbids s k x r)
 no_reason s k x =
-    none_by_tests s k x _ _ _ _ (Decides-eqb s.passes 2) (Decides-must_move s.player (opponent k)) (Decides-occupied s k x) (Decides-repeat s k x)
+    let over = Decides-eqb s.passes 2 in
+    let turn = Decides-must_move s.player (opponent k) in
+    let occupied = Decides-occupied s k x in
+    let repeat = Decides-repeat s k x in
+    (none_holds s k x _ _ _ _ over turn occupied repeat, none_named s k x _ _ _ _ over turn occupied repeat)
 
 -- setups and turns leave the side
 pub side-set_up : (s : State) (ops : List SetupOp) (player : Option Colour) → (set_up s ops player).colouring.side ≡ s.colouring.side

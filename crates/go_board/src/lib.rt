@@ -36,7 +36,7 @@
 //! | taking a turn; the reasons `over`, `turn` and `occupied`, in this order | `Referee::turn_in_full`, `Referee::reason_before_repeat` (`referee/turn`); the short way of `Referee::turn` is `Referee::play_at_once` |
 //! | a pass; two passes in a row (consecutive ones) end the game | `Referee::play_pass` (`referee/turn`); `Mover::may_play`, `Referee::over` (`referee`) |
 //! | how a game begins | `Referee::new`, `Referee::reset` (`referee`) |
-//! | PL in a setup with stones, and passes after it; PL alone | `Referee::begin_anew`, which `Referee::setup` calls; `Referee::setup` (`referee/setup`) |
+//! | PL in a setup with stones, and passes after it; PL alone | `Referee::setup` (`referee/setup`) |
 //! | a node that changes nothing | `Referee::stay` (`referee`) |
 //! | undo; whether the newest call, or each call since some depth, left the board as it was | `Referee::undo`; `Referee::newest_left_board`, `Referee::left_board_since` (`referee`) |
 //!

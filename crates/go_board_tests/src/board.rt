@@ -62,12 +62,8 @@ fn scores_so(rt: &impl Abort, board: &Board, score: (u32, u32)) {
 }
 
 #[test]
-fn reaching_empty(rt: HostRuntime) {
+fn reaching_stones(rt: HostRuntime) {
     reaching(&rt, Cell::Empty, 8, b".xxxxxxxx");
-}
-
-#[test]
-fn reaching_black(rt: HostRuntime) {
     reaching(&rt, Cell::Black, 3, b"xx.x.....");
 }
 

@@ -12,20 +12,7 @@ fn coordinate(rt: &impl Abort, number: u64, side: u8) -> u8 {
     ((number >> 40) % u64::from(side)) as u8
 }
 
-/// Plays the same stone over both pasts. Both must return the same result. Returns whether it is legal.
-fn play_both(
-    rt: &impl Abort,
-    listed: &mut Referee<ListPast>,
-    printed: &mut Referee<PrintPast>,
-    colour: Colour,
-    stone: Play,
-) -> bool {
-    let answer = turn(rt, printed, colour, stone);
-    answers(rt, listed, colour, stone, answer);
-    answer.is_ok()
-}
-
-/// Plays the same pseudorandom stones over both pasts. The boards must be the same.
+/// Plays the same pseudorandom stones over both pasts. Both must return the same results, and the boards must be the same.
 fn play_in_step(
     rt: &impl Abort,
     listed: &mut Referee<ListPast>,
@@ -39,7 +26,10 @@ fn play_in_step(
         let col = next_number(number);
         number = next_number(col);
         let point = at(coordinate(rt, col, side), coordinate(rt, number, side));
-        if play_both(rt, listed, printed, colour, Play::Stone(point)) {
+        let stone = Play::Stone(point);
+        let answer = turn(rt, printed, colour, stone);
+        answers(rt, listed, colour, stone, answer);
+        if answer.is_ok() {
             colour = colour.opponent();
         }
         holds_at(rt, listed.board().same(printed.board()), "try", i, side);
@@ -114,21 +104,17 @@ fn ko<P: Past>(rt: &impl Abort, alloc: Global) {
     tries(rt, &mut game, 0, 3, Ok(()));
 }
 
-/// Fills a board of side 9 with black stones, except for its last point, while White passes.
-fn fill_but_one<P: Past>(rt: &impl Abort, game: &mut Referee<P>) {
-    for index in 0..80u8 {
-        if index > 0 {
-            answers(rt, game, Colour::White, Play::Pass, Ok(()));
-        }
-        let point = at(index % 9, index / 9);
-        answers(rt, game, Colour::Black, Play::Stone(point), Ok(()));
-    }
-}
-
-/// Eighty stones are captured at once by a white stone on the last point, and an undo restores them.
+/// A board of side 9 is filled with black stones, except for its last point, while White passes. Then the eighty stones are captured at once
+/// by a white stone on the last point, and an undo restores them.
 fn large_capture<P: Past>(rt: &impl Abort, alloc: Global) {
     let mut game = begin::<P>(rt, alloc, 9);
-    fill_but_one(rt, &mut game);
+    for index in 0..80u8 {
+        if index > 0 {
+            answers(rt, &mut game, Colour::White, Play::Pass, Ok(()));
+        }
+        let stone = Play::Stone(at(index % 9, index / 9));
+        answers(rt, &mut game, Colour::Black, stone, Ok(()));
+    }
     answers(rt, &mut game, Colour::White, Play::Stone(at(8, 8)), Ok(()));
     scores(rt, &game, (0, 81));
     undo(rt, &mut game);
@@ -137,7 +123,7 @@ fn large_capture<P: Past>(rt: &impl Abort, alloc: Global) {
 
 #[test]
 fn games_with_captures(rt: HostRuntime) {
-    for (side, tries) in [(1, 8), (2, 60), (3, 300), (9, 900), (19, 1200)] {
+    for &(side, tries) in &[(1, 8), (2, 60), (3, 300), (9, 900), (19, 1200)] {
         same_game(&rt, rt.alloc(), side, tries);
     }
 }

@@ -103,37 +103,26 @@ fn set(rt: &impl Abort, board: &mut Board, index: usize, cell: Cell) {
     board.set(point, cell);
 }
 
-/// Makes the same calls of both pasts. Each call must return the same from both, and after it they must agree.
-fn calls(
-    rt: &impl Abort,
-    listed: &mut SidedPast<ListPast>,
-    printed: &mut SidedPast<PrintPast>,
-    side: u8,
-    count: u32,
-) {
+/// Makes the same calls of both pasts on boards of one side. Each call must return the same from both, and after it they must agree.
+fn calls(rt: &impl Abort, alloc: Global, side: u8, count: u32) {
+    let first = numbered(rt, side, 0);
+    let mut listed = SidedPast::<ListPast>::new(rt, alloc, &first);
+    let mut printed = SidedPast::<PrintPast>::new(rt, alloc, &first);
     let mut number = u64::from(side);
     for i in 0..count {
-        let is_so = call(rt, listed, number) == call(rt, printed, number);
+        let is_so = call(rt, &mut listed, number) == call(rt, &mut printed, number);
         holds_at(rt, is_so, "call", i, side);
         for _ in 0..4 {
-            let is_so = agree(rt, listed, printed, number);
+            let is_so = agree(rt, &listed, &printed, number);
             holds_at(rt, is_so, "after call", i, side);
             number = next_number(number);
         }
     }
 }
 
-/// Makes the same calls of two pasts on boards of one side.
-fn calls_on_side(rt: &impl Abort, alloc: Global, side: u8, count: u32) {
-    let first = numbered(rt, side, 0);
-    let mut listed = SidedPast::<ListPast>::new(rt, alloc, &first);
-    let mut printed = SidedPast::<PrintPast>::new(rt, alloc, &first);
-    calls(rt, &mut listed, &mut printed, side, count);
-}
-
 #[test]
 fn pasts_in_step(rt: HostRuntime) {
-    for (side, count) in [(1, 200), (2, 1000), (3, 1000), (4, 1000), (52, 1500)] {
-        calls_on_side(&rt, rt.alloc(), side, count);
+    for &(side, count) in &[(1, 200), (2, 1000), (3, 1000), (4, 1000), (52, 1500)] {
+        calls(&rt, rt.alloc(), side, count);
     }
 }

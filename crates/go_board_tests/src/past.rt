@@ -35,29 +35,21 @@ fn has_alone<P: Past>(
     past.holds(empty) != anew && past.holds(black) != anew && past.holds(white) == anew
 }
 
-/// A new stretch hides the earlier colourings, until the stretch is taken back.
-fn begins_anew<P: Past>(rt: &impl Abort, past: &mut SidedPast<P>, empty: &Board)
-    requires side { empty.now.side ≡ 3 }
-    requires past { past.old ≡ 3 }
-{
-    let black = with_stone(empty, at(0, 0), Cell::Black);
-    let white = with_stone(empty, at(1, 1), Cell::White);
-    past.push(rt, &black);
-    holds(rt, past.holds(empty), "the first colouring");
-    past.restart(rt, &white);
-    let is_alone = has_alone(past, true, empty, &black, &white);
-    holds(rt, is_alone, "a new stretch");
-    past.pop();
-    let is_alone = has_alone(past, false, empty, &black, &white);
-    holds(rt, is_alone, "the stretch before it");
-    holds(rt, past.newest().same(&black), "the newest colouring");
-}
-
-/// Begins a new stretch in a past of the empty board alone.
-fn past_begins_anew<P: Past>(rt: &impl Abort, alloc: Global) {
+/// A new stretch hides the earlier colourings, until the stretch is taken back. The past is first of the empty board alone.
+fn begins_anew<P: Past>(rt: &impl Abort, alloc: Global) {
     let empty = Board::empty(size(rt, 3));
     let mut past = SidedPast::<P>::new(rt, alloc, &empty);
-    begins_anew(rt, &mut past, &empty);
+    let black = with_stone(&empty, at(0, 0), Cell::Black);
+    let white = with_stone(&empty, at(1, 1), Cell::White);
+    past.push(rt, &black);
+    holds(rt, past.holds(&empty), "the first colouring");
+    past.restart(rt, &white);
+    let is_alone = has_alone(&past, true, &empty, &black, &white);
+    holds(rt, is_alone, "a new stretch");
+    past.pop();
+    let is_alone = has_alone(&past, false, &empty, &black, &white);
+    holds(rt, is_alone, "the stretch before it");
+    holds(rt, past.newest().same(&black), "the newest colouring");
 }
 
 /// A past that holds one colouring doesn't hold another whose print has the same low bits.
@@ -71,13 +63,9 @@ fn prints_alike<P: Past>(rt: &impl Abort, alloc: Global) {
 }
 
 #[test]
-fn list_past(rt: HostRuntime) {
-    past_begins_anew::<ListPast>(&rt, rt.alloc());
+fn both_pasts(rt: HostRuntime) {
+    begins_anew::<ListPast>(&rt, rt.alloc());
+    begins_anew::<PrintPast>(&rt, rt.alloc());
     prints_alike::<ListPast>(&rt, rt.alloc());
-}
-
-#[test]
-fn print_past(rt: HostRuntime) {
-    past_begins_anew::<PrintPast>(&rt, rt.alloc());
     prints_alike::<PrintPast>(&rt, rt.alloc());
 }

@@ -6,7 +6,6 @@ use go_board::{
 };
 use std::alloc::Global;
 use std::process::Abort;
-use std::test::Fail;
 
 /// Takes a turn. If the turn isn't legal, returns the reason. The point of a stone must be on the board.
 pub(crate) fn turn<P: Past>(
@@ -59,18 +58,6 @@ fn stands<P: Past>(
     scores(rt, referee, score);
 }
 
-/// Gives White the top row of a board of side 3. Then either player may move.
-fn set_top<P: Past>(rt: &impl Abort, referee: &mut Referee<P>) {
-    assert!(rt; referee.board().size().side() == 3);
-    let area = Rect {
-        first: at(0, 0),
-        last: at(2, 0),
-    };
-    let cell = Cell::White;
-    let taken = referee.setup(&[SetupOp { cell, area }], None);
-    holds(rt, taken.is_ok(), "a setup");
-}
-
 /// Takes back the newest turn or setup.
 pub(crate) fn undo<P: Past>(rt: &impl Abort, referee: &mut Referee<P>) {
     assert!(rt; referee.depth() > 0);
@@ -121,7 +108,14 @@ const ON_THREE: [(u8, u8, Answer); 3] = [(0, 0, OCCUPIED), (1, 1, Ok(())), (2, 2
 /// A setup colours an area, lets either player move, and is taken back as a whole.
 fn on_three<P: Past>(rt: &impl Abort, alloc: Global) {
     let mut game = begin::<P>(rt, alloc, 3);
-    set_top(rt, &mut game);
+    assert!(rt; game.board().size().side() == 3);
+    let area = Rect {
+        first: at(0, 0),
+        last: at(2, 0),
+    };
+    let cell = Cell::White;
+    let taken = game.setup(&[SetupOp { cell, area }], None);
+    holds(rt, taken.is_ok(), "a setup");
     for &(col, row, answer) in &ON_THREE {
         let stone = Play::Stone(at(col, row));
         answers(rt, &mut game, Colour::White, stone, answer);
@@ -141,20 +135,15 @@ fn player_alone<P: Past>(rt: &impl Abort, alloc: Global) {
     stands(rt, &game, 1, 2, (0, 9));
 }
 
-/// Takes two turns, and begins another game, on a board of this side. The referee must then be like a new one.
-fn begins_again<P: Past>(rt: &impl Abort, game: &mut Referee<P>, side: u8) {
-    answers(rt, game, Colour::Black, CORNER, Ok(()));
-    answers(rt, game, Colour::White, Play::Pass, Ok(()));
-    holds(rt, game.reset(size(rt, side)).is_ok(), "a reset");
-    stands(rt, game, 0, 0, (0, 0));
-    holds(rt, game.board().size().side() == side, "the side");
-}
-
-/// A referee that begins another game is like a new one, whether the board has another side or the same.
+/// Takes two turns, and begins another game. The referee must then be like a new one, whether the board has another side or the same.
 fn another_game<P: Past>(rt: &impl Abort, alloc: Global) {
     let mut game = begin::<P>(rt, alloc, 3);
-    for side in [2, 5, 5] {
-        begins_again(rt, &mut game, side);
+    for &side in &[2, 5, 5] {
+        answers(rt, &mut game, Colour::Black, CORNER, Ok(()));
+        answers(rt, &mut game, Colour::White, Play::Pass, Ok(()));
+        holds(rt, game.reset(size(rt, side)).is_ok(), "a reset");
+        stands(rt, &game, 0, 0, (0, 0));
+        holds(rt, game.board().size().side() == side, "the side");
     }
 }
 
@@ -167,22 +156,15 @@ fn examples<P: Past>(rt: &impl Abort, alloc: Global) {
 }
 
 #[test]
-fn referee_over_list_past(rt: HostRuntime) {
+fn referee_over_both_pasts(rt: HostRuntime) {
     examples::<ListPast>(&rt, rt.alloc());
-}
-
-#[test]
-fn referee_over_print_past(rt: HostRuntime) {
     examples::<PrintPast>(&rt, rt.alloc());
 }
 
 #[test]
-fn fault_texts(rt: HostRuntime) -> Result<(), Fail> {
-    let faults = format!(in rt.alloc();
-        "{}, {}",
-        TurnFault::Illegal(Reason::TwoMoves),
-        TurnFault::Memory
-    )?;
+fn fault_texts(rt: HostRuntime) {
+    let illegal = TurnFault::Illegal(Reason::TwoMoves);
+    let faults = format!(in rt.alloc(); "{illegal}, {}", TurnFault::Memory);
+    let faults = faults.expect(&rt, "room for the messages");
     assert_eq!(rt; faults.as_str(), "illegal turn: two-moves, out of memory");
-    Ok(())
 }

@@ -46,6 +46,6 @@ pub use Rattle.judged_lines.specs.Step.{move_step, setup_step, step, step_by, tu
 pub use Rattle.judged_lines.specs.Verdict.{IsVerdictAt, judged_nodes, judged_on, score_in, verdict, verdict_at, verdict_by, verdict_of}
 pub use Rattle.judged_lines.specs.Walk.{before_root, HasIllegal, IllegalNode, IsAfter, judged_by, legal_on, LegalNode, next, no_node, one_node, Walk, walk}
 pub use Rattle.judged_lines.specs.inner.Gathered.{AddsRectangles, AreMoves, ComesAs, HoldsAlone, IsGathered, IsSetup, kind_of, setup_with_player, setup_with_stones}
-pub use Rattle.judged_lines.specs.inner.Judging.{back, back_from, back_to, IsDecided, IsScoreAt, IsScoreOf, IsStepFrom, IsStepped, IsUndecided, judgement_of, Judging, legal_by, setup_effect, state_after, state_of, verdict_in}
+pub use Rattle.judged_lines.specs.inner.Judging.{back, back_from, back_to, IsDecided, IsScoreAt, IsScoreOf, IsStepFrom, IsStepped, IsUndecided, judgement_of, Judging, legal_by, state_after, state_of, verdict_in}
 pub use Rattle.judged_lines.specs.declared.verdict.Verdict.TheVariants.{BadSize, NotGo}
 pub use Rattle.judged_lines.specs.inner.Keeping.{WentOn}

@@ -1,5 +1,6 @@
 -- While no node changes the board, its score stays.
-use Rattle.std.proofs.Common.{◌≡◌, ◌⊎◌, ℕ, ◌≤◌, min, inl, inr, List, [], ◌∷◌, ◌++◌, length, refl, ap, ◌∙◌, Option, Some, None, arith, rules, Result, IfSome}
+use Rattle.std.proofs.Common.{◌≡◌, ◌⊎◌, ℕ, ◌≤◌, min, inl, inr, List, [], ◌∷◌, ◌++◌, length, refl, ap, ◌∙◌, Option, Some, None, arith, rules, Result, false, is_some}
+use Rattle.std.proofs.lemmas.Bool.{false≢true}
 use Rattle.judged_lines.proofs.Common.{cases_lt, Grid, score_of, TurnFault, Reason, State, States, HadSameBoardSince, IsScoreAt, IsScoreOf, IsStepped, back_from, back_to, common_steps}
 use Rattle.board_stones.specs.declared.stones.Colour.TheVariants.{Black, White}
 use Rattle.judged_lines.proofs.Judgements.{back_none, back_one, back_undone}
@@ -41,7 +42,11 @@ scored_stepped r old new result scored score stepped known = grind (arith, commo
 pub scored_now : (states : States) (scored : ℕ) (score : Option (ℕ × ℕ)) (k : ℕ × ℕ) → score ≡ Some k → IsScoreAt states scored score → HadSameBoardSince states scored → IsScoreOf states.present (Some k)
 scored_now states scored score k is known since = search (rules, on_same, same_back)
 
-pub scored_back : (states : States) (count scored : ℕ) (score kept : Option (ℕ × ℕ)) → count ≤ length states.earlier → IfSome kept (λ k. (score ≡ Some k) × ((scored ≤ count) ⊎ HadSameBoardSince states count)) → IsScoreAt states scored score → IsScoreAt (back_to states count) (min scored count) kept
-scored_back states count scored score None fewer is known = tt
-scored_back states count scored score (Some k) fewer is known =
-    search (rules, cases_lt, same_back, on_same, length_back, back_back)
+-- and on the way back; there is nothing to say of no score
+pub scored_back : (states : States) (count scored : ℕ) (score : Option (ℕ × ℕ)) → count ≤ length states.earlier → (scored ≤ count) ⊎ HadSameBoardSince states count → IsScoreAt states scored score → IsScoreAt (back_to states count) (min scored count) score
+scored_back states count scored None fewer stays known = tt
+scored_back states count scored (Some k) fewer stays known = search (rules, cases_lt, same_back, on_same, length_back, back_back)
+
+pub scored_none : (states : States) (scored : ℕ) (score : Option (ℕ × ℕ)) → false ≡ is_some score → IsScoreAt states scored score
+scored_none states scored None none = tt
+scored_none states scored (Some k) none = absurd (false≢true none)

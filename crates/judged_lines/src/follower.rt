@@ -107,7 +107,7 @@ impl<'c, 'a> Follower<'c, 'a> {
             Ok(false) => Ok(None),
             Err(MemoryFault) => {
                 self.streak = 0;
-                self.lines.keeper.judged.count_anew();
+                self.lines.keeper.judged.judge.count_anew();
                 Err(MemoryFault)
             }
         }

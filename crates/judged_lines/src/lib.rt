@@ -19,8 +19,8 @@
 //! wrap a [`Judged`], which judges each line from the first node that the line doesn't share with the one before it, and tells a
 //! [`StepKeeper`] the step of each legal node. The forms of `sgf_lines` do so.
 //!
-//! What only saves work: `Contents::of_lone` and `Contents::of_front` (`judging/contents`) return what `SequenceNodes::next` of
-//! `sgf_outline` recognized at a glance, and a judge keeps the score of its present board (`judging/judge`).
+//! What only saves work: `Contents::of_lone` (`judging/contents`) returns what `SequenceNodes::next` of `sgf_outline` recognized at a
+//! glance, and a judge keeps the score of its present board (`judging/judge`).
 //!
 //! | Module | What it has |
 //! |---|---|
@@ -36,8 +36,8 @@
 //! | Rule (docs/RULES.md) | Function, and its module |
 //! |---|---|
 //! | which values are moves, stones and players; that KM, HA and others have no effect | `kind_of`; `Contents::of_lone` for a node that is recognized at a glance; `NEEDED_NAMES` says which names no such node has (`judging/contents`) |
-//! | which games are judged: GM; SZ | `is_go`; `size`; of several the first counts: `game_and_side`; all asked by `board_size` (`judging/root`) |
-//! | the first reason of a node: `mixed`, `two-moves` or `bad-setup`; then `bad-point` | `take_contents`; `take_move` (`judging/step`); a faulty value of a setup: `push_rectangles`, `last_player` (`judging/contents`) |
+//! | which games are judged: GM; SZ | `board_size`; `size`; of several the first counts: `game_and_side` (`judging/root`) |
+//! | the first reason of a node: `mixed`, `two-moves` or `bad-setup`; then `bad-point` | `take_contents` (`judging/step`); a faulty value of a setup: `push_rectangles`, `last_player` (`judging/contents`) |
 //! | which values are passes; the last value of PL, which counts | `move_value`, `last_player`, `with_player` (`judging/contents`); what PL does then: `Referee::setup` of `go_board` (`referee/setup`) |
 //! | the other reasons | `Referee::reason_before_repeat` of `go_board` (`referee/turn`); for `repeat` the table of `board_past` |
 //! | that nothing of a line is told from its first illegal node on | `judge_sequence` (`judging/judged`) |

@@ -1,10 +1,6 @@
 //! The node of an item.
 
-ghost use Rattle.std.specs.Prelude.{not, ◌≡◌, ◌+◌, ◌<◌};
-ghost use Rattle.key_trie.specs.Trie.{named};
-
-use crate::key::MAX_WIDTH;
-use crate::trie::Slot;
+ghost use Rattle.std.specs.Prelude.{◌≡◌};
 
 /// The node of an item: where the item parted from all earlier items, and what is to be found from there on.
 #[derive(Clone, Copy)]
@@ -33,28 +29,5 @@ pub(crate) fn lone_node(number: u32) -> Node
         up: number,
         off: number,
         on: number,
-    }
-}
-
-/// The node of item `number`, which parts at a position, has that bit there, and comes between a slot and what that slot names.
-pub(crate) fn parted_node(position: u32, slot: Slot, bit: bool, number: u32, below: u32) -> Node
-    requires { position < MAX_WIDTH }
-    ensures depth { result.depth ≡ position + 1 }
-    ensures up { result.up ≡ slot.node }
-    ensures side { result.up_side ≡ slot.side }
-    ensures own { named result bit ≡ number }
-    ensures rest { named result (not bit) ≡ below }
-{
-    let (off, on) = if bit {
-        (below, number)
-    } else {
-        (number, below)
-    };
-    Node {
-        depth: position as u16 + 1,
-        up_side: slot.side,
-        up: slot.node,
-        off,
-        on,
     }
 }

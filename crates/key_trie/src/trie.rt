@@ -6,7 +6,7 @@ ghost use Rattle.key_trie.specs.Key.{Agree};
 ghost use Rattle.key_trie.specs.Trie.{nodes_of, item_count, capacity_of, child_of, IsIn, child_at, HasRoom, IsTrie, IsWayTo, Passes, IsParting, IsOpening, with_named, without_newest};
 
 use crate::key::{Key, MAX_WIDTH};
-use crate::node::{Node, lone_node, parted_node};
+use crate::node::{Node, lone_node};
 use std::alloc::{AllocError, Global};
 
 /// The number of items that a new trie has room for.
@@ -217,9 +217,15 @@ impl Trie {
         ensures room { capacity_of self.new ≡ capacity_of self.old }
     {
         let number = self.nodes.len() as u32;
-        let node = parted_node(position, slot, bit, number, self.child(slot));
+        let below = self.child(slot);
         name(&mut self.nodes, slot, number);
-        self.nodes.push_reserved(node);
+        self.nodes.push_reserved(Node {
+            depth: position as u16 + 1,
+            up_side: slot.side,
+            up: slot.node,
+            off: if bit { below } else { number },
+            on: if bit { number } else { below },
+        });
     }
 
     /// Takes the newest item back. The slot that named its node names again what it named before.

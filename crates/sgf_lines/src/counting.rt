@@ -4,7 +4,6 @@ ghost use Rattle.std.specs.Prelude.{◌≡◌, ◌<◌, ◌≤◌, ◌+◌};
 ghost use Rattle.sgf_lines.specs.Counts.{IsCount, IsWriting, counts_row};
 ghost use Rattle.byte_streams.specs.Streams.{SourceState};
 ghost use Rattle.sgf_lines.specs.inner.Running.{HasReadAll};
-ghost use Rattle.sgf_lines.specs.inner.Views.{built_text};
 
 use crate::fault::RunFault;
 use crate::form::text_row::TextRow;
@@ -70,20 +69,6 @@ pub fn write_counts<T: Sink>(sink: &mut T, counts: &Counts) -> Result<(), RunFau
     ensures { IsWriting (counts_row counts.now) (T.state sink.old) (T.state sink.new) result }
 {
     let fault = RunFault::Write { lines: 0 };
-    let row = row_of_counts(counts);
-    let Ok(()) = put_all(row.text(), sink) else {
-        return Err(fault);
-    };
-    match sink.flush() {
-        Ok(()) => Ok(()),
-        Err(SinkFault) => Err(fault),
-    }
-}
-
-/// The row of counts, with its line feed.
-fn row_of_counts(counts: &Counts) -> TextRow
-    ensures { built_text result ≡ counts_row counts.now }
-{
     let mut row = TextRow::new();
     row.put(b"\n");
     row.put_number(counts.lines);
@@ -91,5 +76,11 @@ fn row_of_counts(counts: &Counts) -> TextRow
     row.put_number(counts.nodes);
     row.put(b" ");
     row.put_number(counts.games);
-    row
+    let Ok(()) = put_all(row.text(), sink) else {
+        return Err(fault);
+    };
+    match sink.flush() {
+        Ok(()) => Ok(()),
+        Err(SinkFault) => Err(fault),
+    }
 }

@@ -44,14 +44,14 @@
 //! |---|---|
 //! | the order of the lines | `SequenceCursor::advance` of `tree_lines` (`sequence_cursor`) |
 //! | `--after`, and that no line ends there; `--limit` | `SequenceCursor::seek_after` of `tree_lines` (`sequence_cursor`); `write_lines` (`run`) |
-//! | at most 64 MiB of a source | `read_some` (`run`) |
+//! | at most 64 MiB of a source | `read_all` (`run`) |
 //! | whether an input ends too early | `RunFault::ends_too_early` (`fault`), which `Fault::message` of `sgfsplit_job` (`fault`) asks; where: the first fault, in the table of `sgf_tree` |
 //! | PLACE, GAME and NODES of a row | `SequenceCursor::place`, `SequenceCursor::game`, `SequenceCursor::len` of `tree_lines` (`sequence_cursor`) |
 //! | a row; the row of counts | `TextRow::lay_out` (`form/text_row`); `write_counts` (`counting`); the counts: `read_extent` of `sgf_tree` (`reader`) |
 //! | what a node is; which games are judged; the reasons of a node; the verdict of a line; that a script stops before an illegal node | the table of `judged_lines` |
 //! | which lines have no commands: not judged, or over side 25; a setup leaves a stone without a liberty | `Script::keep`; `leaves_unreaching`, `Script::text` (`form/script`) |
 //! | a script; a node's commands | `Script::begin`, `Script::say`, `Script::text` (`form/script`); `push_step` (`form/commands`) |
-//! | a game without variations | `SgfForm::follow` (`form/sgf`); its nodes: `Outline::push_sequence` of `sgf_outline` (`outline`); what it leaves out: `Segment::then` of `sgf_outline` (`segment`), `copy_capitals` of `sgf_tree` (`reader/properties`) |
+//! | a game without variations | `SgfForm::follow` (`form/sgf`); its nodes: `Outline::push_sequence` of `sgf_outline` (`outline`); what it leaves out: `Segment::then` of `sgf_outline` (`layout`), `copy_capitals` of `sgf_tree` (`reader/properties`) |
 //!
 //! A run reads from a [`Source`] and writes to a [`Sink`], both of the crate `byte_streams`.
 //!

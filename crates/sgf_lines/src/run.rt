@@ -7,7 +7,7 @@ ghost use Rattle.byte_streams.specs.Streams.{HasDelivered, SourceState};
 ghost use Rattle.sgf_lines.specs.Answer.{IsRun, read_failures, write_failures};
 ghost use Rattle.sgf_lines.specs.RunPlays.{IsRunWithPlays};
 ghost use Rattle.judged_lines.specs.declared.over_lines.Before.TheVariants.{Unheld};
-ghost use Rattle.sgf_lines.specs.inner.Running.{AnswersSome, HasRead, HasReadAll, IsReading, IsStart, MayWriteLines, WritesLines, WritesPage, page_after};
+ghost use Rattle.sgf_lines.specs.inner.Running.{HasReadAll, IsReading, IsStart, MayWriteLines, WritesLines, WritesPage, page_after};
 
 use crate::fault::RunFault;
 use crate::form::LineForm;
@@ -128,39 +128,18 @@ pub(crate) fn read_all<S: Source>(source: &mut S, text: &mut Vec<u8>) -> Result<
 {
     let mut chunk = [0u8; CHUNK];
     'read: loop {
-        if read_some(source, &mut chunk, text)? == 0 {
+        let Ok(count) = source.get(&mut chunk) else {
+            return Err(RunFault::Read);
+        };
+        if MAX_LENGTH - text.len() < count {
+            return Err(RunFault::TooLong);
+        }
+        // a source gives nothing only at its end
+        if count == 0 {
             return Ok(());
         }
+        text.extend_from_slice(&chunk[..count])?;
     }
-}
-
-/// Asks a source once, and appends what it gives. Returns the number of these bytes; it is 0 at the end of the source, and only there.
-fn read_some<S: Source>(
-    source: &mut S,
-    chunk: &mut [u8],
-    text: &mut Vec<u8>,
-) -> Result<usize, RunFault>
-    requires room { 0 < length chunk.old }
-    requires few { length chunk.old ≤ 65536 }
-    requires countable { (S.state source.old).failures < u64.MAX }
-    requires short { length text.old.items ≤ MAX_LENGTH }
-    ensures answer { (start : SourceState) → HasRead start (S.state source.old) text.old.items
-        → AnswersSome start (S.state source.new) text.new.items result }
-    ensures grows { IfOk result (λ count. length text.new.items ≡ length text.old.items + count) }
-    ensures short { IfOk result (λ count. length text.new.items ≤ MAX_LENGTH) }
-    ensures goes_on { IfOk result (λ count. 0 < count → S.end_answers source.new ≤ S.end_answers source.old) }
-    ensures failures { (S.state source.new).failures
-        ≡ (S.state source.old).failures + read_failures result }
-    ensures one_end { S.end_answers source.new ≤ S.end_answers source.old + 1 }
-{
-    let Ok(count) = source.get(chunk) else {
-        return Err(RunFault::Read);
-    };
-    if MAX_LENGTH - text.len() < count {
-        return Err(RunFault::TooLong);
-    }
-    text.extend_from_slice(&chunk[..count])?;
-    Ok(count)
 }
 
 /// A cursor after the line with the place that is asked for; before the first line if no place is asked for.

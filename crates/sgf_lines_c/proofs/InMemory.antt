@@ -1,19 +1,19 @@
 -- What follows from a run or a count whose source is a text in memory.
-use Rattle.std.proofs.Common.{◌≡◌, ℕ, ◌+◌, ◌≤◌, List, [], ◌++◌, length, Option, Some, None, Ok, Err, sym, ap, ◌∙◌, subst, append-nil, length-append, arith, inl, inr, ◌<◌, drop}
+use Rattle.std.proofs.Common.{◌≡◌, ℕ, ◌+◌, ◌≤◌, List, [], ◌++◌, length, Option, Some, None, Ok, Err, sym, ap, ◌∙◌, append-nil, length-append, arith, inl, inr, refl}
+use Rattle.std.proofs.lemmas.Grind.{common_steps}
 use Rattle.std.specs.Io.KnownBytes.{Appends, Consumes, IsAtEnd}
 use Rattle.byte_streams.specs.Streams.{SourceState, SinkState}
 use Rattle.tree_lines.specs.Lines.{Line}
 use Rattle.sgf_lines.specs.Record.{output}
-use Rattle.sgf_lines.specs.Answer.{MAX_LENGTH, IsWhole, HasPage, IsGood, Answers, IsRun}
+use Rattle.sgf_lines.specs.Answer.{MAX_LENGTH, IsWhole, IsGood, Answers, IsRun}
 use Rattle.sgf_lines.specs.Counts.{AnswersCount, IsCount}
 use Rattle.sgf_lines.specs.declared.options.Options.{Options}
 use Rattle.sgf_lines.specs.declared.fault.RunFault.{RunFault}
 use Rattle.sgf_lines.specs.declared.fault.RunFault.TheVariants.{Read, TooLong, NotSgf, NoSuchLine, Write, Memory}
-use Rattle.sgf_lines_c.specs.declared.answer.Answer.{Answer}
-use Rattle.sgf_lines_c.specs.declared.status.Status.{Status}
-use Rattle.sgf_lines_c.specs.declared.status.Status.TheVariants.{Done, NotSgf as StatusNotSgf, EndsEarly, TooLong as StatusTooLong, NoSuchLine as StatusNoSuchLine, UnknownForm, RoomTooSmall, OutOfMemory}
-use Rattle.sgf_lines_c.specs.SplitAnswer.{IsPartOf, Says, NeedsRoom, told, told_of}
-use Rattle.sgf_lines_c.specs.inner.Running.{IsRefusal, IsUncounted, Puts}
+use Rattle.sgf_lines_c.specs.SplitAnswer.{IsPartOf, Says}
+use Rattle.sgf_lines_c.specs.CountAnswer.{fault_told, Says as SaysCount}
+use Rattle.sgf_lines_c.specs.inner.Refusal.{refusal_of}
+use Rattle.sgf_lines_c.specs.inner.Running.{IsTaken}
 
 -- a source that is at its end gave exactly the text
 whole_text : (text : List ℕ) (left : Option (List ℕ)) (given : List ℕ) → Consumes (Some text) left given → IsAtEnd left → given ≡ text
@@ -34,9 +34,9 @@ part_of : (o : Options) (text : List ℕ) (left : Option (List ℕ)) (given : Li
 part_of o text left given page count h good fewer = let all = all_given text left given h good.whole in inl (all.1, (page, rw all.0 at good.has_page, fewer))
 
 -- what a failed run over the text says of the text
-pub run_refused : (o : Options) (text : List ℕ) (source new_source : SourceState) (sink new_sink : SinkState) (fault : RunFault) → source.to_come ≡ Some text
-    → IsRun o source new_source sink new_sink (Err fault) → IsRefusal o text fault
-run_refused o text source new_source sink new_sink fault starts run = by fault run.answers
+pub run_refused : (o : Options) (text room : List ℕ) (source new_source : SourceState) (sink new_sink : SinkState) (fault : RunFault) → source.to_come ≡ Some text
+    → IsRun o source new_source sink new_sink (Err fault) → Says o text room room (refusal_of fault).1 (refusal_of fault).0
+run_refused o text room source new_source sink new_sink fault starts run = by fault run.answers
   where
     left : Option (List ℕ)
     left = new_source.to_come
@@ -44,17 +44,18 @@ run_refused o text source new_source sink new_sink fault starts run = by fault r
     consumes : Consumes (Some text) left run.given
     consumes = rw starts at run.consumes
 
-    by : (f : RunFault) → Answers o run.given left sink new_sink (Err f) → IsRefusal o text f
-    by Read a = tt
-    by TooLong a = let short = given_short text left run.given consumes in omega (arith, a.0, short)
-    by (NotSgf at len) a = let all = all_given text left run.given consumes a.0 in (all.1, rw all.0 at a.1, rw all.0 at a.2)
-    by (NoSuchLine place) a = let all = all_given text left run.given consumes a.0 in (all.1, rw all.0 at a.1)
-    by (Write count) a = part_of o text left run.given a.0 count consumes a.1 a.2.lines
-    by (Memory count) (inl a) = part_of o text left run.given a.0 count consumes a.1 a.2
-    by (Memory count) (inr a) = inr a.1
+    by : (f : RunFault) → Answers o run.given left sink new_sink (Err f) → Says o text room room (refusal_of f).1 (refusal_of f).0
+    by Read a = (inr refl, refl, refl)
+    by TooLong a = let short = given_short text left run.given consumes in (omega (arith, a.0, short), refl, refl)
+    by (NotSgf at len) a = let all = all_given text left run.given consumes a.0 in grind (arith, common_steps)
+    by (NoSuchLine place) a = let all = all_given text left run.given consumes a.0 in (all.1, rw all.0 at a.1, refl, refl)
+    by (Write count) a = (part_of o text left run.given a.0 count consumes a.1 a.2.lines, refl, refl)
+    by (Memory count) (inl a) = (part_of o text left run.given a.0 count consumes a.1 a.2, refl, refl)
+    by (Memory count) (inr a) = (inr a.1, refl, refl)
 
 -- what a failed count over the text says of the text
-pub count_refused : (text : List ℕ) (source new_source : SourceState) (fault : RunFault) → source.to_come ≡ Some text → IsCount source new_source (Err fault) → IsUncounted text fault
+pub count_refused : (text : List ℕ) (source new_source : SourceState) (fault : RunFault) → source.to_come ≡ Some text → IsCount source new_source (Err fault)
+    → SaysCount text (fault_told (refusal_of fault).1.at) (refusal_of fault).0
 count_refused text source new_source fault starts count = by fault count.answers
   where
     left : Option (List ℕ)
@@ -63,25 +64,13 @@ count_refused text source new_source fault starts count = by fault count.answers
     consumes : Consumes (Some text) left count.given
     consumes = rw starts at count.consumes
 
-    by : (f : RunFault) → AnswersCount count.given left (Err f) → IsUncounted text f
-    by Read a = tt
-    by TooLong a = let short = given_short text left count.given consumes in omega (arith, a.0, short)
-    by (NotSgf at len) a = let all = all_given text left count.given consumes a.0 in (all.1, rw all.0 at a.1, rw all.0 at a.2)
+    by : (f : RunFault) → AnswersCount count.given left (Err f) → SaysCount text (fault_told (refusal_of f).1.at) (refusal_of f).0
+    by Read a = refl
+    by TooLong a = let short = given_short text left count.given consumes in (omega (arith, a.0, short), refl)
+    by (NotSgf at len) a = let all = all_given text left count.given consumes a.0 in grind (arith, common_steps)
     by (NoSuchLine place) a = absurd a
-    by (Write count) a = tt
-    by (Memory count) a = tt
-
--- the answer that `put` gives for the records of a page is `told_of` the page
-told_page : (o : Options) (page : List Line) (lines : ℕ) (records : List ℕ) → lines ≡ length page → records ≡ output o.form page → told lines (length records) 0 ≡ told_of o page
-told_page o page lines records e f = ap (λ n. told n (length records) 0) e ∙ ap (λ bs. told (length page) (length bs) 0) f
-
--- `records` are the records of the page of the text, and `lines` is their number
-pub record IsTaken (o : Options) (text records : List ℕ) (lines : ℕ) : Type 0 where
-  page : List Line
-  page_is : HasPage o text page
-  short : length text ≤ MAX_LENGTH
-  records_are : records ≡ output o.form page
-  count : lines ≡ length page
+    by (Write count) a = absurd a
+    by (Memory count) a = refl
 
 -- a run over the text succeeded; its sink was empty before, and then held these records
 pub taken_in_memory : (o : Options) (text records : List ℕ) (source new_source : SourceState) (sink new_sink : SinkState) (lines : ℕ) → source.to_come ≡ Some text
@@ -92,33 +81,3 @@ taken_in_memory o text records source new_source sink new_sink lines starts empt
     let all = all_given text new_source.to_come run.given consumes a.1.whole in
     let takes : Appends (Some []) (Some records) (output o.form a.0) = rw (empty, ends) at a.2 in
     record { page = a.0; page_is = rw all.0 at a.1.has_page; short = all.1; records_are = takes; count = a.3 }
-
--- after such a run, `Says` holds of the status and the answer of `put`
-pub put_of_run : (o : Options) (text records old new : List ℕ) (lines : ℕ) (status : Status) (answer : Answer) → IsTaken o text records lines → Puts records old new status
-    → answer ≡ told lines (length records) 0 → Says o text old new answer status
-put_of_run o text records old new lines Done answer run put is =
-    let Fit : List ℕ → Type 0 = λ bs. length bs ≤ length old in
-    let Put : List ℕ → Type 0 = λ bs. new ≡ bs ++ drop (length bs) old in
-    record {
-      page = run.page;
-      page_is = run.page_is;
-      short = run.short;
-      fits = subst Fit run.records_are put.0;
-      room_is = subst Put run.records_are put.1;
-      told_is = is ∙ told_page o run.page lines records run.count run.records_are;
-    }
-put_of_run o text records old new lines RoomTooSmall answer run put is =
-    let Small : List ℕ → Type 0 = λ bs. length old < length bs in
-    let needs : NeedsRoom o text old answer = record {
-      page = run.page;
-      page_is = run.page_is;
-      short = run.short;
-      too_small = subst Small run.records_are put.0;
-      told_is = is ∙ told_page o run.page lines records run.count run.records_are;
-    } in (needs, put.1)
-put_of_run o text records old new lines StatusNotSgf answer run put is = absurd put
-put_of_run o text records old new lines EndsEarly answer run put is = absurd put
-put_of_run o text records old new lines StatusTooLong answer run put is = absurd put
-put_of_run o text records old new lines StatusNoSuchLine answer run put is = absurd put
-put_of_run o text records old new lines UnknownForm answer run put is = absurd put
-put_of_run o text records old new lines OutOfMemory answer run put is = absurd put

@@ -1,7 +1,6 @@
 //! What the three calls report to the caller.
 
 ghost use Rattle.std.specs.Prelude.{◌≡◌};
-ghost use Rattle.sgf_lines_c.specs.SplitAnswer.{told};
 ghost use Rattle.sgf_lines_c.specs.CountAnswer.{fault_told};
 ghost use Rattle.sgf_lines_c.specs.JudgeAnswer.{reason_number as number_of, verdict_told, no_verdict};
 
@@ -20,19 +19,6 @@ pub struct Answer {
     /// After `NotSgf`: the offset in bytes, from 0, of the first faulty byte. After `EndsEarly`: the length of the text. After
     /// `NoSuchLine`: the place that was asked for.
     pub at: u64,
-}
-
-impl Answer {
-    /// An answer in which every number is 0.
-    pub(crate) fn nothing() -> Answer
-        ensures { result ≡ told 0 0 0 }
-    {
-        Answer {
-            lines: 0,
-            bytes: 0,
-            at: 0,
-        }
-    }
 }
 
 /// What `sgf_lines_count` reports. A number that has no meaning for the status is 0.

@@ -1,7 +1,7 @@
 //! What a caller asks for.
 
 ghost use Rattle.std.specs.Prelude.{◌≡◌};
-ghost use Rattle.sgf_lines_c.specs.Asked.{options_of, given};
+ghost use Rattle.sgf_lines_c.specs.Asked.{options_of};
 
 use sgf_lines::{Form, Options};
 
@@ -31,15 +31,8 @@ impl Asked {
         let form = Form::numbered(self.form)?;
         Some(Options {
             form,
-            after: given_number(self.has_after, self.after),
-            limit: given_number(self.has_limit, self.limit),
+            after: self.has_after.then_some(self.after),
+            limit: self.has_limit.then_some(self.limit),
         })
     }
-}
-
-/// The number if it counts, else None.
-fn given_number(counts: bool, number: u64) -> Option<u64>
-    ensures { result ≡ given counts number }
-{
-    if counts { Some(number) } else { None }
 }

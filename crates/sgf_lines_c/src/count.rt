@@ -1,14 +1,11 @@
 //! Counting the games, nodes and lines of a text in memory.
 
-ghost use Rattle.std.specs.Prelude.{◌≡◌, ℕ, List};
-ghost use Rattle.sgf_lines_c.specs.CountAnswer.{IsCount, Says, fault_told};
-ghost use Rattle.sgf_lines_c.specs.inner.Refusal.{at_of, status_of};
-ghost use Rattle.sgf_lines_c.specs.inner.Running.{IsUncounted};
+ghost use Rattle.sgf_lines_c.specs.CountAnswer.{IsCount};
 
 use crate::answer::CountAnswer;
-use crate::refusal;
+use crate::refusal::refused;
 use crate::status::Status;
-use sgf_lines::{RunFault, SliceSource, count};
+use sgf_lines::{SliceSource, count};
 use std::alloc::Global;
 
 /// Counts the games, nodes and lines of the collection that the text spells (SGF FF[4], EBNF). Returns the number of a `Status`.
@@ -21,17 +18,8 @@ use std::alloc::Global;
 pub extern "C" fn sgf_lines_count(alloc: Global, text: &[u8], answer: &mut CountAnswer) -> u32
     ensures { IsCount text.now answer.new result }
 {
-    let (status, told) = count_text(alloc, text);
-    *answer = told;
-    status.number()
-}
-
-/// Counts the games, nodes and lines of a text.
-fn count_text(alloc: Global, text: &[u8]) -> (Status, CountAnswer)
-    ensures { Says text.now result.1 result.0 }
-{
     let mut source = SliceSource::new(text);
-    match count(alloc, &mut source) {
+    let (status, told) = match count(alloc, &mut source) {
         Ok(counts) => (
             Status::Done,
             CountAnswer {
@@ -41,15 +29,11 @@ fn count_text(alloc: Global, text: &[u8]) -> (Status, CountAnswer)
                 at: 0,
             },
         ),
-        Err(fault) => refused(&fault),
-    }
-}
-
-/// What a failed count reports. The source is a text in memory, so no read fails.
-fn refused(fault: &RunFault) -> (Status, CountAnswer)
-    ensures status { result.0 ≡ status_of fault.now }
-    ensures told { result.1 ≡ fault_told (at_of fault.now) }
-    ensures says { (text : List ℕ) → IsUncounted text fault.now → Says text result.1 result.0 }
-{
-    (refusal::status(fault), CountAnswer::at(refusal::at(fault)))
+        Err(fault) => {
+            let (status, told) = refused(fault);
+            (status, CountAnswer::at(told.at))
+        }
+    };
+    *answer = told;
+    status.number()
 }

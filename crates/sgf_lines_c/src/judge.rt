@@ -5,7 +5,7 @@ ghost use Rattle.sgf_outline.specs.Spelling.{Spells};
 ghost use Rattle.sgf_lines_c.specs.JudgeAnswer.{IsJudged, MAX_LENGTH, Says};
 
 use crate::answer::JudgeAnswer;
-use crate::refusal;
+use crate::refusal::refused;
 use crate::status::Status;
 use sgf_lines::{RunFault, SeekFault, judge_at};
 use sgf_tree::{Outline, read_outline};
@@ -40,11 +40,8 @@ fn judge_text(alloc: Global, text: &[u8], place: u64) -> (Status, JudgeAnswer)
     match read_outline(alloc, text) {
         Ok(outline) => judge_line(alloc, &outline, place),
         Err(fault) => {
-            let fault = RunFault::unread(fault, text.len());
-            (
-                refusal::status(&fault),
-                JudgeAnswer::at(refusal::at(&fault)),
-            )
+            let (status, told) = refused(RunFault::unread(fault, text.len()));
+            (status, JudgeAnswer::at(told.at))
         }
     }
 }

@@ -1,16 +1,15 @@
 //! Splitting a text in memory into records in memory.
 
-ghost use Rattle.std.specs.Prelude.{◌≡◌, ℕ, List, length};
+ghost use Rattle.std.specs.Prelude.{ℕ, List};
 ghost use Rattle.sgf_lines.specs.declared.options.Options.{Options};
-ghost use Rattle.sgf_lines_c.specs.SplitAnswer.{IsSplit, Says, told};
-ghost use Rattle.sgf_lines_c.specs.inner.Running.{IsRefusal, Puts};
-ghost use Rattle.sgf_lines_c.specs.inner.Refusal.{at_of, lines_of, status_of};
+ghost use Rattle.sgf_lines_c.specs.SplitAnswer.{IsSplit, Says};
+ghost use Rattle.sgf_lines_c.specs.inner.Running.{IsTaken};
 
 use crate::answer::Answer;
 use crate::asked::Asked;
-use crate::refusal;
+use crate::refusal::refused;
 use crate::status::Status;
-use sgf_lines::{Options, RunFault, SliceSource, WriteSink, split};
+use sgf_lines::{Options, SliceSource, WriteSink, split};
 use std::alloc::Global;
 
 /// Splits the collection that the text spells (SGF FF[4], EBNF). Writes the records of the lines asked for to the front of the
@@ -38,7 +37,14 @@ pub extern "C" fn sgf_lines_split(
 {
     let (status, told) = match asked.options() {
         Some(options) => split_into(alloc, text, &options, room),
-        None => (Status::UnknownForm, Answer::nothing()),
+        None => (
+            Status::UnknownForm,
+            Answer {
+                lines: 0,
+                bytes: 0,
+                at: 0,
+            },
+        ),
     };
     *answer = told;
     status.number()
@@ -52,13 +58,14 @@ fn split_into(alloc: Global, text: &[u8], options: &Options, room: &mut [u8]) ->
     let mut sink = WriteSink::new(Vec::new(alloc));
     match split(alloc, &mut source, &mut sink, options) {
         Ok(lines) => put(&sink.into_inner(), lines, room),
-        Err(fault) => refused(&fault),
+        Err(fault) => refused(fault),
     }
 }
 
 /// Puts the records at the front of the room. If they don't fit, the room is unchanged. `lines` is the number of records.
 fn put(records: &[u8], lines: u64, room: &mut [u8]) -> (Status, Answer)
-    ensures { Puts records.now room.old room.new result.0 × (result.1 ≡ told lines (length records.now) 0) }
+    ensures { (options : Options) (text : List ℕ) → IsTaken options text records.now lines
+        → Says options text room.old room.new result.1 result.0 }
 {
     let bytes = records.len();
     let told = Answer {
@@ -71,20 +78,4 @@ fn put(records: &[u8], lines: u64, room: &mut [u8]) -> (Status, Answer)
     }
     room[..bytes].copy_from_slice(records);
     (Status::Done, told)
-}
-
-/// What a failed run reports. The run reads a text in memory, which never
-/// fails, and writes to a vector, which fails only if memory is refused.
-fn refused(fault: &RunFault) -> (Status, Answer)
-    ensures status { result.0 ≡ status_of fault.now }
-    ensures told { result.1 ≡ told (lines_of fault.now) 0 (at_of fault.now) }
-    ensures says { (options : Options) → (text room : List ℕ)
-        → IsRefusal options text fault.now → Says options text room room result.1 result.0 }
-{
-    let told = Answer {
-        lines: refusal::lines(fault),
-        bytes: 0,
-        at: refusal::at(fault),
-    };
-    (refusal::status(fault), told)
 }

@@ -1,7 +1,5 @@
 //! Calls of `sgf_lines` that go over, seek, follow, judge and count lines.
 
-ghost use Rattle.std.specs.Prelude.{◌<◌};
-
 use crate::page::Page;
 use crate::seen::Seen;
 use crate::tree::{TWO, collection};
@@ -18,167 +16,146 @@ const KO: &[u8] = b"(;SZ[4]AB[ba][ab][bc]AW[ca][db][cc][bb];B[cb];W[bb])";
 
 /// Makes the calls.
 pub fn calls(alloc: Global, seen: &mut Seen) {
-    two_lines(alloc, seen);
-    ko(alloc, seen);
+    if let Ok(two) = collection(alloc, TWO, seen) {
+        goes_over(alloc, &two, seen);
+        follows(alloc, &two, seen);
+        let score = Verdict::Score {
+            black: 9,
+            white: 0,
+            over: false,
+        };
+        judged(alloc, &two, 1, score, seen);
+    }
+    if let Ok(ko) = collection(alloc, KO, seen) {
+        let repeat = Verdict::Illegal {
+            turn: 2,
+            place: 45,
+            reason: Reason::Repeat,
+        };
+        judged(alloc, &ko, 2, repeat, seen);
+    }
     counts(alloc, seen);
 }
 
-/// Goes over the game of two lines, and judges the first.
-fn two_lines(alloc: Global, seen: &mut Seen) {
-    let Ok(two) = collection(alloc, TWO, seen) else {
-        return;
-    };
-    goes_over(alloc, &two, seen);
-    follows(alloc, &two, seen);
-    let score = Verdict::Score {
-        black: 9,
-        white: 0,
-        over: false,
-    };
-    judged(alloc, &two, 1, score, seen);
-}
+/// The place of no line.
+const NONE: u64 = 0;
 
-/// Judges the line that ends with an illegal retake of a ko.
-fn ko(alloc: Global, seen: &mut Seen) {
-    let Ok(ko) = collection(alloc, KO, seen) else {
-        return;
-    };
-    let repeat = Verdict::Illegal {
-        turn: 2,
-        place: 45,
-        reason: Reason::Repeat,
-    };
-    judged(alloc, &ko, 2, repeat, seen);
-}
+/// The place that a cursor seeks first, unless it is `NONE`, and then the place of the line that comes next; `NONE` if no line is left.
+type Step = (u64, u64);
+
+/// Goes over both lines. Two more calls must then find the end.
+const BOTH: [Step; 4] = [(NONE, 8), (NONE, 22), (NONE, NONE), (NONE, NONE)];
+
+/// Seeks the places of both lines, and a place that no line has.
+const PLACES: [Step; 3] = [(8, 22), (16, NONE), (22, NONE)];
 
 /// Goes over the lines of the game of two lines, and seeks places.
 fn goes_over(alloc: Global, two: &Collection<'_>, seen: &mut Seen) {
-    let outline = two.outline();
-    let mut cursor = Cursor::new(alloc, outline);
-    both(&mut cursor, seen);
-    cursor = Cursor::new(alloc, outline);
-    places(&mut cursor, seen);
-    cursor = Cursor::new(alloc, outline);
-    next(&mut cursor, Some((&[0, 1], 8)), seen);
+    goes(alloc, two, &BOTH, seen);
+    goes(alloc, two, &PLACES, seen);
+    let mut cursor = Cursor::new(alloc, two.outline());
+    next(&mut cursor, 8, seen);
     // If memory is refused to the seek, the cursor stays before the second line.
     if cursor.seek_after(22).is_err() {
         seen.want();
+        next(&mut cursor, 22, seen);
     } else {
-        cursor = Cursor::new(alloc, outline);
-        next(&mut cursor, Some((&[0, 1], 8)), seen);
+        goes(alloc, two, &BOTH[..2], seen);
     }
-    next(&mut cursor, Some((&[0, 2, 3], 22)), seen);
 }
 
-/// Goes over both lines. Two more calls must then find the end.
-fn both(cursor: &mut Cursor<'_, '_>, seen: &mut Seen) {
-    next(cursor, Some((&[0, 1], 8)), seen);
-    next(cursor, Some((&[0, 2, 3], 22)), seen);
-    next(cursor, None, seen);
-    next(cursor, None, seen);
+/// Takes these steps with a new cursor.
+fn goes(alloc: Global, two: &Collection<'_>, steps: &[Step], seen: &mut Seen) {
+    let mut cursor = Cursor::new(alloc, two.outline());
+    for &(sought, line) in steps {
+        if sought != NONE {
+            seek(&mut cursor, sought, seen);
+        }
+        next(&mut cursor, line, seen);
+    }
 }
 
-/// Seeks the places of both lines, and a place that no line has.
-fn places(cursor: &mut Cursor<'_, '_>, seen: &mut Seen) {
-    seek(cursor, 8, true, seen);
-    next(cursor, Some((&[0, 2, 3], 22)), seen);
-    seek(cursor, 16, false, seen);
-    next(cursor, None, seen);
-    seek(cursor, 22, true, seen);
-    next(cursor, None, seen);
-}
-
-/// The path and the place of a line, if there is one.
-type Line<'a> = Option<(&'a [usize], u64)>;
-
-/// Goes on by one line, which must be `line`. If memory was refused, the second call must give that line.
-fn next(cursor: &mut Cursor<'_, '_>, line: Line<'_>, seen: &mut Seen) {
+/// Goes on by one line, which must have this place. If memory was refused, the second call must give that line.
+fn next(cursor: &mut Cursor<'_, '_>, place: u64, seen: &mut Seen) {
     seen.call();
     if let Ok(given) = cursor.next() {
-        return seen.right(is_line(given, line), "a line");
+        return seen.right(is_line(given, place), "a line");
     }
     seen.want();
     match cursor.next() {
-        Ok(given) => seen.right(is_line(given, line), "a line after a refused one"),
+        Ok(given) => seen.right(is_line(given, place), "a line after a refused one"),
         Err(_) => seen.wrong("a line was refused twice"),
     }
 }
 
-/// Whether `given` is `line` and belongs to the first game, or both are None.
-fn is_line(given: Option<LineRef<'_>>, line: Line<'_>) -> bool {
-    match (given, line) {
-        (Some(given), Some((path, place))) => {
-            given.path() == path && given.game() == 1 && given.place() == place
-        }
-        (None, None) => true,
-        _ => false,
+/// Whether `given` is the line of `TWO` with this place, in the first game; or there is none, and the place is `NONE`.
+fn is_line(given: Option<LineRef<'_>>, place: u64) -> bool {
+    let path: &[usize] = if place == 8 { &[0, 1] } else { &[0, 2, 3] };
+    match given {
+        Some(line) => line.path() == path && line.game() == 1 && line.place() == place,
+        None => place == NONE,
     }
 }
 
-/// Seeks a place; `is_line` says whether a line has it. If memory was refused, seeks once more.
-fn seek(cursor: &mut Cursor<'_, '_>, place: u64, is_line: bool, seen: &mut Seen) {
+/// Seeks a place, which must be that of a line unless it is 16. If memory was refused, seeks once more.
+fn seek(cursor: &mut Cursor<'_, '_>, place: u64, seen: &mut Seen) {
     seen.call();
-    let sought = match cursor.seek_after(place) {
-        Err(SeekFault::Memory) => {
-            seen.want();
-            cursor.seek_after(place)
-        }
-        sought => sought,
-    };
-    match sought {
-        Ok(()) => seen.right(is_line, "a place of no line"),
-        Err(SeekFault::NoSuchLine { place: named }) => {
-            seen.right(!is_line && named == place, "a place")
-        }
-        Err(SeekFault::Memory) => seen.wrong("a place was refused twice"),
+    let mut sought = cursor.seek_after(place);
+    if sought == Err(SeekFault::Memory) {
+        seen.want();
+        sought = cursor.seek_after(place);
     }
+    let answer = if place == 16 {
+        Err(SeekFault::NoSuchLine { place })
+    } else {
+        Ok(())
+    };
+    seen.right(sought == answer, "a place");
 }
+
+/// The scores of Black and White at the end of a line, and the line's place; `NONE` if no line is left.
+type Followed = (u32, u32, u64);
+
+/// The lines of the game of two lines, and their end.
+const FOLLOWED: [Followed; 3] = [(9, 0, 8), (1, 1, 22), (0, 0, NONE)];
 
 /// Follows both lines of the game of two lines. The next call must find the end. Then follows the line after the first.
 fn follows(alloc: Global, two: &Collection<'_>, seen: &mut Seen) {
     let mut follower = Follower::new(alloc, two.outline());
-    follow(&mut follower, Some((9, 0, 8)), seen);
-    follow(&mut follower, Some((1, 1, 22)), seen);
-    follow(&mut follower, None, seen);
+    follow(&mut follower, &FOLLOWED, seen);
     let mut cursor = Cursor::new(alloc, two.outline());
-    seek(&mut cursor, 8, true, seen);
-    follower = Follower::after(alloc, cursor);
-    follow(&mut follower, Some((1, 1, 22)), seen);
-    follow(&mut follower, None, seen);
+    seek(&mut cursor, 8, seen);
+    let mut follower = Follower::after(alloc, cursor);
+    follow(&mut follower, &FOLLOWED[1..], seen);
 }
 
-/// The scores of Black and White at the end of a line, and the line's place.
-type Followed = Option<(u32, u32, u64)>;
-
-/// Follows a line, which must be `line`. If memory was refused, the second call must give that line.
-fn follow(follower: &mut Follower<'_, '_>, line: Followed, seen: &mut Seen) {
-    seen.call();
-    match follower.next() {
-        Ok(Some(verdict)) => return is_followed(follower, verdict, line, seen),
-        Ok(None) => return seen.right(line.is_none(), "the end of the lines"),
-        Err(_) => seen.want(),
-    }
-    match follower.next() {
-        Ok(Some(verdict)) => is_followed(follower, verdict, line, seen),
-        Ok(None) => seen.right(line.is_none(), "the end after a refused line"),
-        Err(_) => seen.wrong("a line was refused twice"),
+/// Follows lines, which must be these. If memory was refused, the second call must give the same line.
+fn follow(follower: &mut Follower<'_, '_>, lines: &[Followed], seen: &mut Seen) {
+    for &line in lines {
+        seen.call();
+        if !follows_one(follower, line, seen) {
+            seen.want();
+            let is_given = follows_one(follower, line, seen);
+            seen.right(is_given, "a line was refused twice");
+        }
     }
 }
 
-/// The line that was followed must have this verdict and this place.
-fn is_followed(follower: &Follower<'_, '_>, verdict: Verdict, line: Followed, seen: &mut Seen)
-    requires { 0 < follower.now.streak }
-{
-    let Some((black, white, place)) = line else {
-        return seen.wrong("a line after the last one");
-    };
+/// Follows a line, which must be this one. Returns false if memory was refused.
+fn follows_one(follower: &mut Follower<'_, '_>, line: Followed, seen: &mut Seen) -> bool {
+    let (black, white, place) = line;
     let score = Verdict::Score {
         black,
         white,
         over: false,
     };
-    let is_line = verdict == score && follower.line().place() == place;
+    let is_line = match follower.next() {
+        Ok(Some(verdict)) => verdict == score && follower.line().place() == place,
+        Ok(None) => place == NONE,
+        Err(_) => return false,
+    };
     seen.right(is_line, "a line followed");
+    true
 }
 
 /// Judges the line that ends in this leaf. If memory was refused, judges it once more.

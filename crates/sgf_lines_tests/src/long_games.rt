@@ -1,9 +1,9 @@
 //! Two games, one with more turns and one with more setups than a referee and its past have room for at first. Memory may be refused
 //! whenever they need more room.
 
-use crate::referee::{Shown, begin, turn, undo};
+use crate::referee::{Call, Shown, begin, make, undo};
 use crate::seen::Seen;
-use go_board::{Cell, Colour, Past, Play, Point, Reason, Rect, Referee, SetupOp};
+use go_board::{Cell, Colour, Past, Play, Point, Reason, Rect, Referee};
 use std::alloc::Global;
 
 /// The side of the boards.
@@ -23,18 +23,34 @@ pub fn calls<P: Past>(alloc: Global, turns: &'static str, setups: &'static str, 
     let Some(start) = begin::<P>(alloc, SIDE as u8, seen) else {
         return;
     };
-    if let Some(mut game) = begin::<P>(alloc, SIDE as u8, seen) {
-        seen.growth(turns);
-        many_turns(&mut game, seen);
-        seen.no_growth();
-        all_undone(&mut game, &start, seen);
+    for is_of_turns in [true, false] {
+        let name = if is_of_turns { turns } else { setups };
+        if let Some(mut game) = begin::<P>(alloc, SIDE as u8, seen) {
+            long_game(&mut game, &start, is_of_turns, name, seen);
+        }
     }
-    if let Some(mut game) = begin::<P>(alloc, SIDE as u8, seen) {
-        seen.growth(setups);
-        many_setups(&mut game, seen);
-        seen.no_growth();
-        all_undone(&mut game, &start, seen);
+}
+
+/// Plays one of the games, and takes back all that was done. The game must then be like `start`, which stays at its beginning.
+fn long_game<P: Past>(
+    game: &mut Referee<P>,
+    start: &Referee<P>,
+    is_of_turns: bool,
+    name: &'static str,
+    seen: &mut Seen,
+) {
+    seen.growth(name);
+    if is_of_turns {
+        many_turns(game, seen);
+    } else {
+        many_setups(game, seen);
     }
+    seen.growth("");
+    for _ in 0..game.depth() {
+        undo(game, seen);
+    }
+    let is_start = Shown::of(start).is_of(game);
+    seen.right(is_start, "a long game after all undos");
 }
 
 /// The point with this number. Points are numbered row by row from 0.
@@ -49,50 +65,81 @@ fn point(number: usize) -> Point {
 /// Black's stones takes off the stone above it, and a white stone there would only repeat the board.
 fn many_turns<P: Past>(game: &mut Referee<P>, seen: &mut Seen) {
     for number in 0..TURNS {
-        if number % 2 == 0 {
-            let stone = Play::Stone(point(number + 1));
-            turn(game, Colour::Black, stone, Ok(()), seen);
-            retake(game, number, seen);
+        let is_black = number % 2 == 0;
+        let colour = if is_black {
+            Colour::Black
         } else {
-            let stone = Play::Stone(point(number - 1));
-            turn(game, Colour::White, stone, Ok(()), seen);
+            Colour::White
+        };
+        play(game, colour, number ^ 1, Ok(()), seen);
+        if is_black && number >= SIDE {
+            let above = number - SIDE + 1;
+            play(game, Colour::White, above, Err(Reason::Repeat), seen);
         }
     }
     // Black has 152 stones, and 143 points between them. White has the nine stones of the last row.
     seen.right(game.score() == (295, 9), "the score of many turns");
-    for &(colour, at, answer) in &END {
-        let play = match at {
-            Some((col, row)) => Play::Stone(Point { col, row }),
-            None => Play::Pass,
-        };
-        turn(game, colour, play, answer, seen);
+    for &(colour, turn, answer) in &END {
+        make(game, Call::Turn(colour, turn), answer, seen);
     }
     seen.right(game.score() == (299, 11), "the score after the ko");
 }
 
-/// White can't play where Black took a stone off in the turn with this number.
-fn retake<P: Past>(game: &mut Referee<P>, number: usize, seen: &mut Seen) {
-    if number >= SIDE {
-        let above = Play::Stone(point(number - SIDE + 1));
-        turn(game, Colour::White, above, Err(Reason::Repeat), seen);
-    }
+/// Plays a stone on the point with this number.
+fn play<P: Past>(
+    game: &mut Referee<P>,
+    colour: Colour,
+    number: usize,
+    answer: Result<(), Reason>,
+    seen: &mut Seen,
+) {
+    let stone = Play::Stone(point(number));
+    make(game, Call::Turn(colour, stone), answer, seen);
 }
 
-/// A player, the column and the row of the stone (None is a pass), and the result.
-type Turn = (Colour, Option<(u8, u8)>, Result<(), Reason>);
+/// A player, what he plays, and the result.
+type Turn = (Colour, Play, Result<(), Reason>);
 
 /// A ko in the two last rows, which White may not retake. Then Black plays where a stone was taken off in the second row.
 const END: [Turn; 10] = [
-    (Colour::Black, Some((2, 18)), Ok(())),
-    (Colour::White, Some((3, 18)), Ok(())),
-    (Colour::Black, Some((3, 17)), Ok(())),
-    (Colour::White, Some((4, 17)), Ok(())),
-    (Colour::Black, None, Ok(())),
-    (Colour::White, Some((5, 18)), Ok(())),
-    (Colour::Black, Some((4, 18)), Ok(())),
-    (Colour::White, Some((3, 18)), Err(Reason::Repeat)),
-    (Colour::White, None, Ok(())),
-    (Colour::Black, Some((0, 0)), Ok(())),
+    (
+        Colour::Black,
+        Play::Stone(Point { col: 2, row: 18 }),
+        Ok(()),
+    ),
+    (
+        Colour::White,
+        Play::Stone(Point { col: 3, row: 18 }),
+        Ok(()),
+    ),
+    (
+        Colour::Black,
+        Play::Stone(Point { col: 3, row: 17 }),
+        Ok(()),
+    ),
+    (
+        Colour::White,
+        Play::Stone(Point { col: 4, row: 17 }),
+        Ok(()),
+    ),
+    (Colour::Black, Play::Pass, Ok(())),
+    (
+        Colour::White,
+        Play::Stone(Point { col: 5, row: 18 }),
+        Ok(()),
+    ),
+    (
+        Colour::Black,
+        Play::Stone(Point { col: 4, row: 18 }),
+        Ok(()),
+    ),
+    (
+        Colour::White,
+        Play::Stone(Point { col: 3, row: 18 }),
+        Err(Reason::Repeat),
+    ),
+    (Colour::White, Play::Pass, Ok(())),
+    (Colour::Black, Play::Stone(Point { col: 0, row: 0 }), Ok(())),
 ];
 
 /// Sets up a stone on each point of every other row, first white ones, and then black ones in place of the first of them.
@@ -103,39 +150,13 @@ fn many_setups<P: Past>(game: &mut Referee<P>, seen: &mut Seen) {
         } else {
             Cell::Black
         };
-        let before = Shown::of(game);
         let at = point(number % POINTS / SIDE * 2 * SIDE + number % SIDE);
-        set_up(&before, game, cell, at, seen);
+        let area = Rect {
+            first: at,
+            last: at,
+        };
+        make(game, Call::Setup(cell, area), Ok(()), seen);
     }
     // Black has 110 stones and four rows between them, White has 80 stones and three rows.
     seen.right(game.score() == (186, 137), "the score of many setups");
-}
-
-/// Sets a stone up. `before` is what the game shows before the setup. If memory was refused, the game must still show that,
-/// and the stone is set up once more.
-fn set_up<P: Past>(before: &Shown, game: &mut Referee<P>, cell: Cell, at: Point, seen: &mut Seen) {
-    let side = game.board().size().side();
-    if at.col >= side || at.row >= side {
-        return seen.wrong("a point off the board");
-    }
-    let area = Rect {
-        first: at,
-        last: at,
-    };
-    let ops = [SetupOp { cell, area }];
-    seen.call();
-    if game.setup(&ops, None).is_err() {
-        seen.want();
-        seen.right(before.is_of(game), "a long game after a refused setup");
-        seen.right(game.setup(&ops, None).is_ok(), "a setup asked for again");
-    }
-}
-
-/// Takes back all that was done. The game must then be like `start`, which stays at its beginning.
-fn all_undone<P: Past>(game: &mut Referee<P>, start: &Referee<P>, seen: &mut Seen) {
-    for _ in 0..game.depth() {
-        undo(game, seen);
-    }
-    let is_start = Shown::of(start).is_of(game);
-    seen.right(is_start, "a long game after all undos");
 }

@@ -4,27 +4,28 @@
 ghost use Rattle.std.specs.Prelude.{◌≡◌, None};
 
 use crate::page::Page;
+use crate::runs::LIST;
 use crate::seen::Seen;
-use sgf_lines::{Counts, Form, Options, RunFault, Source, SourceFault, count, split};
+use sgf_lines::{Counts, RunFault, Source, SourceFault, count, split};
 use std::alloc::Global;
 
 /// The number of bytes of a text, the most bytes that its source gives at once, how often it must be asked, and the text's row. The
 /// source is asked for 65,536 bytes at a time.
-type Read = (usize, usize, u32, &'static [u8]);
+type Read = (usize, usize, u32, &'static str);
 
 const READS: [Read; 12] = [
-    (4_096, 70_000, 2, b"4094 1 1 score 0 0 open\n"),
-    (6_000, 70_000, 2, b"5998 1 1 score 0 0 open\n"),
-    (6_000, 4_095, 3, b"5998 1 1 score 0 0 open\n"),
-    (6_000, 1_000, 7, b"5998 1 1 score 0 0 open\n"),
-    (65_535, 70_000, 2, b"65533 1 1 score 0 0 open\n"),
-    (65_536, 70_000, 2, b"65534 1 1 score 0 0 open\n"),
-    (65_537, 70_000, 3, b"65535 1 1 score 0 0 open\n"),
-    (65_537, 65_535, 3, b"65535 1 1 score 0 0 open\n"),
-    (131_072, 70_000, 3, b"131070 1 1 score 0 0 open\n"),
-    (131_073, 70_000, 4, b"131071 1 1 score 0 0 open\n"),
-    (131_073, 65_535, 4, b"131071 1 1 score 0 0 open\n"),
-    (200_000, 30_000, 8, b"199998 1 1 score 0 0 open\n"),
+    (4_096, 70_000, 2, "4094 1 1 score 0 0 open\n"),
+    (6_000, 70_000, 2, "5998 1 1 score 0 0 open\n"),
+    (6_000, 4_095, 3, "5998 1 1 score 0 0 open\n"),
+    (6_000, 1_000, 7, "5998 1 1 score 0 0 open\n"),
+    (65_535, 70_000, 2, "65533 1 1 score 0 0 open\n"),
+    (65_536, 70_000, 2, "65534 1 1 score 0 0 open\n"),
+    (65_537, 70_000, 3, "65535 1 1 score 0 0 open\n"),
+    (65_537, 65_535, 3, "65535 1 1 score 0 0 open\n"),
+    (131_072, 70_000, 3, "131070 1 1 score 0 0 open\n"),
+    (131_073, 70_000, 4, "131071 1 1 score 0 0 open\n"),
+    (131_073, 65_535, 4, "131071 1 1 score 0 0 open\n"),
+    (200_000, 30_000, 8, "199998 1 1 score 0 0 open\n"),
 ];
 
 /// Counts each text from two sources, and splits it.
@@ -33,7 +34,7 @@ pub fn calls(alloc: Global, seen: &mut Seen) {
         seen.growth("counting long texts");
         counted(alloc, read, true, seen);
         counted(alloc, read, false, seen);
-        seen.no_growth();
+        seen.growth("");
         splits(alloc, read, seen);
     }
 }
@@ -109,58 +110,40 @@ impl Source for LineFeeds {
     }
 }
 
-/// Counts a text, and counts it again if memory was refused.
+/// Counts a text, and counts it again if memory was refused. There must be one game of one node, and the source must have been asked as
+/// often as needed.
 fn counted(alloc: Global, read: Read, fails_late: bool, seen: &mut Seen) {
     seen.call();
     let mut source = source_of(read, fails_late);
-    match count(alloc, &mut source) {
-        Err(RunFault::Memory { .. }) => seen.want(),
-        answer => return is_counted(answer, read, &source, seen),
+    let mut answer = count(alloc, &mut source);
+    if let Err(RunFault::Memory { .. }) = answer {
+        seen.want();
+        source = source_of(read, fails_late);
+        answer = count(alloc, &mut source);
     }
-    let mut source = source_of(read, fails_late);
-    let answer = count(alloc, &mut source);
-    is_counted(answer, read, &source, seen);
-}
-
-/// There must be one game of one node, and the source must have been asked as often as needed.
-fn is_counted(answer: Result<Counts, RunFault>, read: Read, source: &LineFeeds, seen: &mut Seen) {
-    let (_, _, asked, _) = read;
     let counts = Counts {
         games: 1,
         nodes: 1,
         lines: 1,
     };
     seen.right(answer == Ok(counts), "the counts of a long text");
-    seen.right(source.asked == asked, "how often a count asks");
+    seen.right(source.asked == read.2, "how often a count asks");
 }
 
-/// Splits a text, and splits it again if memory was refused.
+/// Splits a text, and splits it again if memory was refused. There must be one row, and the source must have been asked as often as needed.
 fn splits(alloc: Global, read: Read, seen: &mut Seen) {
-    let options = Options::all(Form::List);
     seen.call();
     let mut source = source_of(read, false);
     let mut page = Page::new();
-    match split(alloc, &mut source, &mut page, &options) {
-        Err(RunFault::Memory { .. }) => seen.want(),
-        answer => return is_split(answer, read, &source, &page, seen),
+    let mut answer = split(alloc, &mut source, &mut page, &LIST);
+    if let Err(RunFault::Memory { .. }) = answer {
+        seen.want();
+        source = source_of(read, false);
+        page = Page::new();
+        answer = split(alloc, &mut source, &mut page, &LIST);
     }
-    let mut source = source_of(read, false);
-    let mut page = Page::new();
-    let answer = split(alloc, &mut source, &mut page, &options);
-    is_split(answer, read, &source, &page, seen);
-}
-
-/// There must be one row, and the source must have been asked as often as needed.
-fn is_split(
-    answer: Result<u64, RunFault>,
-    read: Read,
-    source: &LineFeeds,
-    page: &Page,
-    seen: &mut Seen,
-) {
-    let (_, _, asked, row) = read;
     seen.right(answer == Ok(1), "the line of a long text");
-    let is_whole = page.flushes() == 1 && page.as_slice() == row;
+    let is_whole = page.flushes() == 1 && page.as_slice() == read.3.as_bytes();
     seen.right(is_whole, "the row of a long text");
-    seen.right(source.asked == asked, "how often a run asks");
+    seen.right(source.asked == read.2, "how often a run asks");
 }

@@ -2,7 +2,7 @@
 //! the first `push`, for room for the points that are emptied. The turns and setups of `long_games` cover `play` and `set_up`, and a past
 //! that needs more room.
 
-ghost use Rattle.std.specs.Prelude.{◌≡◌, true, false, IfOk, OnOk};
+ghost use Rattle.std.specs.Prelude.{◌≡◌, IfOk, OnOk, OnErr};
 ghost use Rattle.board_past.specs.Past.{only, with_next, HaveSide};
 ghost use Rattle.board_points.specs.Point.{IsOn};
 
@@ -29,11 +29,11 @@ fn grows<P: Past>(past: &mut P, empty: &Board, black: &Board, white: &Board, see
     requires black { black.now.side ≡ empty.now.side }
     requires white { white.now.side ≡ empty.now.side }
 {
-    let Ok(()) = push(past, empty, black, seen) else {
+    let Ok(()) = add(past, empty, empty, black, false, seen) else {
         return;
     };
     seen.right(past.holds(empty), "a past after a push");
-    let Ok(()) = restart(past, empty, black, white, seen) else {
+    let Ok(()) = add(past, empty, black, white, true, seen) else {
         return;
     };
     let holds_earlier = past.holds(empty) || past.holds(black);
@@ -69,55 +69,45 @@ fn begin<P: Past>(alloc: Global, board: &Board, seen: &mut Seen) -> Result<P, Me
     again
 }
 
-/// Adds a colouring to a past that has only another one. If memory was refused, the past must be unchanged, and is asked again.
-fn push<P: Past>(
-    past: &mut P,
-    only: &Board,
-    board: &Board,
-    seen: &mut Seen,
-) -> Result<(), MemoryFault>
-    requires past { HaveSide board.now.side (P.held past.old) }
-    requires only { HaveSide only.now.side (P.held past.old) }
-    ensures { OnOk result (P.held past.new ≡ with_next (P.held past.old) board.now false) }
-{
-    seen.call();
-    if past.push(board).is_ok() {
-        return Ok(());
-    }
-    seen.want();
-    let is_newest = past.newest().same(only);
-    seen.right(is_newest, "the newest colouring after a refused push");
-    let holds_one = past.holds(only) && !past.holds(board);
-    seen.right(holds_one, "a past after a refused push");
-    let again = past.push(board);
-    seen.right(again.is_ok(), "a push asked for again");
-    again
-}
-
-/// Begins a stretch. If memory was refused, the past must be unchanged, and a second call begins the stretch.
-fn restart<P: Past>(
+/// Adds a colouring to a past of one stretch, which has `first` and, as the newest, `newest`. If memory was refused, the past must be
+/// unchanged, and is asked again. If `anew`, the colouring begins another stretch.
+fn add<P: Past>(
     past: &mut P,
     first: &Board,
-    second: &Board,
+    newest: &Board,
     board: &Board,
+    anew: bool,
     seen: &mut Seen,
 ) -> Result<(), MemoryFault>
     requires past { HaveSide board.now.side (P.held past.old) }
     requires first { HaveSide first.now.side (P.held past.old) }
-    requires second { HaveSide second.now.side (P.held past.old) }
-    ensures { OnOk result (P.held past.new ≡ with_next (P.held past.old) board.now true) }
+    requires newest { HaveSide newest.now.side (P.held past.old) }
+    ensures { OnOk result (P.held past.new ≡ with_next (P.held past.old) board.now anew) }
 {
     seen.call();
-    if past.restart(board).is_ok() {
+    if push_or_restart(past, board, anew).is_ok() {
         return Ok(());
     }
     seen.want();
-    let is_newest = past.newest().same(second);
-    seen.right(is_newest, "the newest colouring after a refused restart");
-    let holds_both = past.holds(first) && past.holds(second);
-    seen.right(holds_both, "a stretch after a refused restart");
-    seen.right(!past.holds(board), "a past after a refused restart");
-    let again = past.restart(board);
-    seen.right(again.is_ok(), "a restart asked for again");
+    let is_newest = past.newest().same(newest);
+    seen.right(is_newest, "the newest colouring after a refused one");
+    let holds_both = past.holds(first) && past.holds(newest);
+    seen.right(holds_both, "a stretch after a refused colouring");
+    seen.right(!past.holds(board), "a past after a refused colouring");
+    let again = push_or_restart(past, board, anew);
+    seen.right(again.is_ok(), "a colouring asked for again");
     again
+}
+
+/// Adds a colouring, which begins a stretch if `anew`.
+fn push_or_restart<P: Past>(past: &mut P, board: &Board, anew: bool) -> Result<(), MemoryFault>
+    requires { HaveSide board.now.side (P.held past.old) }
+    ensures ok { OnOk result (P.held past.new ≡ with_next (P.held past.old) board.now anew) }
+    ensures err { OnErr result (P.held past.new ≡ P.held past.old) }
+{
+    if anew {
+        past.restart(board)
+    } else {
+        past.push(board)
+    }
 }

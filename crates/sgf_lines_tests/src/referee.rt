@@ -9,18 +9,15 @@ use std::alloc::Global;
 
 /// Plays two games.
 pub fn calls<P: Past>(alloc: Global, seen: &mut Seen) {
-    on_one::<P>(alloc, seen);
-    on_three::<P>(alloc, seen);
-}
-
-const CORNER: Play = Play::Stone(Point { col: 0, row: 0 });
-
-/// Plays a game on one point.
-fn on_one<P: Past>(alloc: Global, seen: &mut Seen) {
     if let Some(mut game) = begin::<P>(alloc, 1, seen) {
         passes_twice(&mut game, seen);
     }
+    if let Some(start) = begin::<P>(alloc, 3, seen) {
+        on_three(alloc, &start, seen);
+    }
 }
+
+const CORNER: Play = Play::Stone(Point { col: 0, row: 0 });
 
 /// What a player plays and the result; then the number of turns made, and whether the game is over.
 type Answered = (Colour, Play, Result<(), Reason>, u64, bool);
@@ -34,48 +31,58 @@ const PASSES: [Answered; 5] = [
     (Colour::Black, Play::Pass, Err(Reason::Over), 2, true),
 ];
 
-/// Takes those turns, takes back the last pass, and begins another game.
+/// Takes those turns, and takes back the last pass. Then adds the present state once more, undoes that, and begins another game, which asks
+/// for no memory with `ListPast` and `PrintPast`.
 fn passes_twice<P: Past>(game: &mut Referee<P>, seen: &mut Seen) {
     for &(colour, play, answer, turns, over) in &PASSES {
-        turn(game, colour, play, answer, seen);
+        make(game, Call::Turn(colour, play), answer, seen);
         let is_so = game.turns() == turns && game.over() == over;
         seen.right(is_so, "a game of passes");
     }
     undo(game, seen);
-    stay(game, seen);
+    stays(game, seen);
     let is_so = !game.over() && game.turns() == 1 && game.depth() == 1;
     seen.right(is_so, "a game after an undo");
-    begin_another(game, seen);
-}
-
-/// Plays a game on three by three points, beside a game that stays at its beginning.
-fn on_three<P: Past>(alloc: Global, seen: &mut Seen) {
-    if let Some(start) = begin::<P>(alloc, 3, seen) {
-        on_three_beside(alloc, &start, seen);
-    }
+    let size = game.board().size();
+    seen.call();
+    seen.right(game.reset(size).is_ok(), "a reset");
+    let is_so = !game.over() && game.turns() == 0 && game.depth() == 0;
+    seen.right(is_so, "a game after a reset");
 }
 
 /// Plays a game on three by three points. At its end it must be like `start`, which stays at its beginning.
-fn on_three_beside<P: Past>(alloc: Global, start: &Referee<P>, seen: &mut Seen) {
+fn on_three<P: Past>(alloc: Global, start: &Referee<P>, seen: &mut Seen) {
     if let Some(mut game) = begin::<P>(alloc, 3, seen) {
         sets_up(&mut game, start, seen);
     }
 }
 
+/// White's turns after she was given the top row, and their results.
+const ON_THREE: [(Point, Result<(), Reason>); 3] = [
+    (Point { col: 0, row: 0 }, Err(Reason::Occupied)),
+    (Point { col: 1, row: 1 }, Ok(())),
+    (Point { col: 2, row: 2 }, Err(Reason::Turn)),
+];
+
 /// A setup colours an area, lets either player move, and is taken back as a whole.
 fn sets_up<P: Past>(game: &mut Referee<P>, start: &Referee<P>, seen: &mut Seen) {
-    set_top_up(game, seen);
-    let middle = Play::Stone(Point { col: 1, row: 1 });
-    let last = Play::Stone(Point { col: 2, row: 2 });
-    turn(game, Colour::White, CORNER, Err(Reason::Occupied), seen);
-    turn(game, Colour::White, middle, Ok(()), seen);
+    let top = Rect {
+        first: Point { col: 0, row: 0 },
+        last: Point { col: 2, row: 0 },
+    };
+    make(game, Call::Setup(Cell::White, top), Ok(()), seen);
+    seen.right(game.depth() == 1, "a game after a setup");
+    for &(point, answer) in &ON_THREE {
+        let stone = Call::Turn(Colour::White, Play::Stone(point));
+        make(game, stone, answer, seen);
+    }
     seen.right(game.score() == (0, 9), "the score after a stone");
-    turn(game, Colour::White, last, Err(Reason::Turn), seen);
     undo(game, seen);
     undo(game, seen);
     let is_start = Shown::of(start).is_of(game);
     seen.right(is_start, "a game after all undos");
-    turn(game, Colour::White, Play::Pass, Err(Reason::Turn), seen);
+    let pass = Call::Turn(Colour::White, Play::Pass);
+    make(game, pass, Err(Reason::Turn), seen);
 }
 
 /// What can be seen of a referee.
@@ -126,98 +133,73 @@ pub fn begin<P: Past>(alloc: Global, side: u8, seen: &mut Seen) -> Option<Refere
     again.ok()
 }
 
-/// Takes a turn. If memory was refused, the game must be unchanged, and the turn is taken once more. If a reason forbids the
+/// A call of a referee that asks for memory.
+#[derive(Clone, Copy)]
+pub enum Call {
+    Turn(Colour, Play),
+    /// Sets an area up.
+    Setup(Cell, Rect),
+    /// Adds the present state once more.
+    Stay,
+}
+
+/// Makes a call. If memory was refused, the game must be unchanged, and the call is made once more. If a reason forbids a
 /// turn, the game must be unchanged too, and no memory may be asked for.
-pub fn turn<P: Past>(
+pub fn make<P: Past>(
     game: &mut Referee<P>,
-    colour: Colour,
-    play: Play,
+    call: Call,
     answer: Result<(), Reason>,
     seen: &mut Seen,
 ) {
     let before = Shown::of(game);
-    turn_from(&before, game, colour, play, answer, seen);
-}
-
-/// Takes a turn. If memory was refused, takes the turn once more. `before` is what the game shows before the turn.
-fn turn_from<P: Past>(
-    before: &Shown,
-    game: &mut Referee<P>,
-    colour: Colour,
-    play: Play,
-    answer: Result<(), Reason>,
-    seen: &mut Seen,
-) {
-    if let Play::Stone(point) = play {
-        let side = game.board().size().side();
-        if point.col >= side || point.row >= side {
-            return seen.wrong("a point off the board");
-        }
-    }
     seen.call();
-    let taken = match game.turn(colour, play) {
-        Err(TurnFault::Memory) => {
-            seen.want();
-            seen.right(before.is_of(game), "a game after a refused turn");
-            seen.right(answer.is_ok(), "memory for an illegal turn");
-            game.turn(colour, play)
+    let mut given = answer_of(game, call);
+    if given == Err(TurnFault::Memory) {
+        seen.want();
+        seen.right(before.is_of(game), "a game after a refused call");
+        seen.right(answer.is_ok(), "memory for an illegal turn");
+        given = answer_of(game, call);
+    }
+    match answer {
+        Ok(()) => {
+            let is_so = given.is_ok() && game.depth() > before.depth;
+            seen.right(is_so, "a game after a call");
         }
-        taken => taken,
-    };
-    match (taken, answer) {
-        (Ok(()), Ok(())) => seen.right(game.depth() > before.depth, "a game after a turn"),
-        (Err(TurnFault::Illegal(given)), Err(reason)) => {
-            let is_so = given == reason && before.is_of(game);
+        Err(reason) => {
+            let is_so = given == Err(TurnFault::Illegal(reason)) && before.is_of(game);
             seen.right(is_so, "a game after an illegal turn");
         }
-        _ => seen.wrong("the answer of a turn"),
     }
 }
 
-/// Sets up white stones on the top row of three points. If memory was
-/// refused, the game must be unchanged, and the stones are set up once more.
-fn set_top_up<P: Past>(game: &mut Referee<P>, seen: &mut Seen) {
-    let before = Shown::of(game);
-    set_top_up_from(&before, game, seen);
-}
-
-/// Sets up those stones. `before` is what the game shows before the setup.
-fn set_top_up_from<P: Past>(before: &Shown, game: &mut Referee<P>, seen: &mut Seen) {
-    if game.board().size().side() < 3 {
-        return seen.wrong("a board of fewer than three columns");
+/// The answer of a call. `BadPoint` is that of a point off the board, which no call may name.
+fn answer_of<P: Past>(game: &mut Referee<P>, call: Call) -> Result<(), TurnFault> {
+    let side = game.board().size().side();
+    match call {
+        Call::Turn(colour, play) => {
+            if let Play::Stone(point) = play {
+                if point.col >= side || point.row >= side {
+                    return Err(TurnFault::Illegal(Reason::BadPoint));
+                }
+            }
+            game.turn(colour, play)
+        }
+        Call::Setup(cell, area) => {
+            let Rect { first, last } = area;
+            let is_area = first.col <= last.col && first.row <= last.row;
+            if !is_area || last.col >= side || last.row >= side {
+                return Err(TurnFault::Illegal(Reason::BadPoint));
+            }
+            Ok(game.setup(&[SetupOp { cell, area }], None)?)
+        }
+        Call::Stay => Ok(game.stay()?),
     }
-    let area = Rect {
-        first: Point { col: 0, row: 0 },
-        last: Point { col: 2, row: 0 },
-    };
-    let ops = [SetupOp {
-        cell: Cell::White,
-        area,
-    }];
-    seen.call();
-    if game.setup(&ops, None).is_err() {
-        seen.want();
-        seen.right(before.is_of(game), "a game after a refused setup");
-        seen.right(game.setup(&ops, None).is_ok(), "a setup asked for again");
-    }
-    seen.right(game.depth() == 1, "a game after a setup");
 }
 
 /// Adds the present state once more, and undoes that.
-fn stay<P: Past>(game: &mut Referee<P>, seen: &mut Seen) {
+fn stays<P: Past>(game: &mut Referee<P>, seen: &mut Seen) {
     let before = Shown::of(game);
-    stay_from(&before, game, seen);
-}
-
-/// Does the same. If memory was refused, the game must still show `before`, and the call is made once more.
-fn stay_from<P: Past>(before: &Shown, game: &mut Referee<P>, seen: &mut Seen) {
-    seen.call();
-    if game.stay().is_err() {
-        seen.want();
-        seen.right(before.is_of(game), "a game after a refused stay");
-        seen.right(game.stay().is_ok(), "a stay asked for again");
-    }
-    seen.right(game.depth() > before.depth, "a game after a stay");
+    make(game, Call::Stay, Ok(()), seen);
     undo(game, seen);
     seen.right(
         before.is_of(game),
@@ -231,13 +213,4 @@ pub fn undo<P: Past>(game: &mut Referee<P>, seen: &mut Seen) {
         return seen.wrong("nothing to take back");
     }
     game.undo();
-}
-
-/// Begins another game. With `ListPast` and `PrintPast` this asks for no memory.
-fn begin_another<P: Past>(game: &mut Referee<P>, seen: &mut Seen) {
-    let size = game.board().size();
-    seen.call();
-    seen.right(game.reset(size).is_ok(), "a reset");
-    let is_so = !game.over() && game.turns() == 0 && game.depth() == 0;
-    seen.right(is_so, "a game after a reset");
 }

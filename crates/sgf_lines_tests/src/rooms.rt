@@ -2,6 +2,8 @@
 //! length of a text, and these texts are short. So each of them needs more room than it is given at first. Values as long as those whose
 //! lengths are kept, one byte shorter, and longer.
 
+ghost use Rattle.std.specs.Prelude.{◌<◌};
+
 use crate::seen::Seen;
 use crate::tree::collection;
 use sgf_tree::{Collection, Extent, ReadFault, read_extent};
@@ -13,95 +15,104 @@ const MOST: usize = 603;
 /// The number of bytes of the longest text of long values.
 const LONGEST: usize = 25_000;
 
+/// How many games, variations or nodes the texts have.
+const COUNTS: [usize; 7] = [15, 16, 17, 127, 128, 129, 200];
+
+/// What a text has many of, each a node.
+#[derive(Clone, Copy, PartialEq, Eq)]
+enum Many {
+    /// The text is `(;)(;)..(;)`.
+    Games,
+    /// The text is `(;(;)(;)..(;))`.
+    Variations,
+    /// The text is `(;;..;)`.
+    Nodes,
+}
+
 /// Reads the texts, and measures them.
 pub fn calls(alloc: Global, seen: &mut Seen) {
-    for count in [15u8, 16, 17, 127, 128, 129, 200] {
+    for &count in &COUNTS {
         seen.growth("reading games");
-        games(alloc, count, seen);
+        reads(alloc, Many::Games, count, seen);
         seen.growth("reading variations");
-        variations(alloc, count, seen);
+        reads(alloc, Many::Variations, count, seen);
         seen.growth("reading nodes");
-        nodes(alloc, count, seen);
+        reads(alloc, Many::Nodes, count, seen);
     }
     seen.growth("measuring long values");
-    for length in [4_095u16, 4_096, 4_097] {
+    for &length in &[4_095, 4_096, 4_097] {
         values(alloc, length, seen);
     }
-    seen.no_growth();
+    seen.growth("");
 }
 
-/// A text of games of a node each: `(;)(;)..(;)`.
-fn games(alloc: Global, count: u8, seen: &mut Seen) {
-    let count = usize::from(count);
+/// Reads a text with so many games, variations or nodes, and measures it.
+fn reads(alloc: Global, many: Many, count: usize, seen: &mut Seen)
+    requires { count < 201 }
+{
     let mut text = [b';'; MOST];
-    for i in 0..MOST {
-        text[i] = byte_of_games(i);
-    }
-    let text = front(&text, 3 * count);
+    let length = spell(many, count, &mut text);
+    let text = front(&text, length);
+    let (games, nodes, leaves) = match many {
+        Many::Games => (count, count, count),
+        Many::Variations => (1, count + 1, count),
+        Many::Nodes => (1, count, 1),
+    };
     if let Ok(collection) = collection(alloc, text, seen) {
-        seen.right(collection.games() == count, "the number of games");
-        has_nodes(&collection, count, seen);
-        each_is_a_game(&collection, seen);
+        seen.right(collection.games() == games, "the number of games");
+        seen.right(collection.nodes() == nodes, "the number of nodes");
+        each_is_so(&collection, many, seen);
     }
-    measures(alloc, text, (count, count, count), seen);
+    let extent = Extent {
+        games,
+        nodes,
+        leaves,
+    };
+    measures(alloc, text, extent, false, seen);
 }
 
-/// Each node must be a game of its own.
-fn each_is_a_game(collection: &Collection<'_>, seen: &mut Seen) {
-    for i in 0..collection.nodes() {
-        let is_so = collection.game_of(i) == i + 1 && collection.last_below(i) == i;
-        let is_place = collection.place(i) == i.wrapping_mul(3).wrapping_add(1);
-        seen.right(is_so && is_place, "one of many games");
+/// Writes such a text, and returns its length. All bytes are `;` before.
+fn spell(many: Many, count: usize, text: &mut [u8; MOST]) -> usize
+    requires { count < 201 }
+{
+    if many == Many::Nodes {
+        text[0] = b'(';
+        text[(count + 1).min(MOST - 1)] = b')';
+        return count + 2;
     }
-}
-
-/// A text of a game with variations of a node each: `(;(;)(;)..(;))`.
-fn variations(alloc: Global, count: u8, seen: &mut Seen) {
-    let count = usize::from(count);
-    let mut text = [b';'; MOST];
-    for i in 2..MOST {
-        text[i] = byte_of_games(i - 2);
+    let first = if many == Many::Games { 0 } else { 2 };
+    for i in first..MOST {
+        text[i] = byte_of_games(i - first);
+    }
+    if many == Many::Games {
+        return 3 * count;
     }
     text[0] = b'(';
     text[(3 * count + 2).min(MOST - 1)] = b')';
-    let text = front(&text, 3 * count + 3);
-    if let Ok(collection) = collection(alloc, text, seen) {
-        has_nodes(&collection, count + 1, seen);
-        each_is_a_variation(&collection, seen);
-    }
-    measures(alloc, text, (1, count + 1, count), seen);
+    3 * count + 3
 }
 
-/// Each node but the root must be a variation.
-fn each_is_a_variation(collection: &Collection<'_>, seen: &mut Seen) {
-    for i in 1..collection.nodes() {
-        let is_so = collection.parent(i) == Some(0) && collection.last_below(i) == i;
-        let is_place = collection.place(i) == i.wrapping_mul(3);
-        seen.right(is_so && is_place, "one of many variations");
-    }
-}
-
-/// A text of a game without variations: `(;;..;)`.
-fn nodes(alloc: Global, count: u8, seen: &mut Seen) {
-    let count = usize::from(count);
-    let last = count.saturating_sub(1);
-    let mut text = [b';'; MOST];
-    text[0] = b'(';
-    text[(count + 1).min(MOST - 1)] = b')';
-    let text = front(&text, count + 2);
-    if let Ok(collection) = collection(alloc, text, seen) {
-        has_nodes(&collection, count, seen);
-        each_goes_on(&collection, last, seen);
-    }
-    measures(alloc, text, (1, count, 1), seen);
-}
-
-/// Each node must go on from the one before, up to the last.
-fn each_goes_on(collection: &Collection<'_>, last: usize, seen: &mut Seen) {
+/// Each node must be a game of its own, or a variation, unless it is the root of all; or go on from the one before, up to the last.
+fn each_is_so(collection: &Collection<'_>, many: Many, seen: &mut Seen) {
     for i in 0..collection.nodes() {
-        let is_so = collection.last_below(i) == last && collection.place(i) == i + 1;
-        let is_leaf = collection.is_leaf(i) == (i == last);
-        seen.right(is_so && is_leaf, "one of many nodes");
+        let place = collection.place(i);
+        let last_below = collection.last_below(i);
+        let is_so = match many {
+            Many::Games => {
+                let is_place = place == i.wrapping_mul(3).wrapping_add(1);
+                collection.game_of(i) == i + 1 && last_below == i && is_place
+            }
+            Many::Variations => {
+                let is_place = place == i.wrapping_mul(3);
+                i == 0 || collection.parent(i) == Some(0) && last_below == i && is_place
+            }
+            Many::Nodes => {
+                let is_last = i == collection.nodes() - 1;
+                let is_place = place == i + 1 && last_below == collection.nodes() - 1;
+                is_place && collection.is_leaf(i) == is_last
+            }
+        };
+        seen.right(is_so, "one of many games, variations or nodes");
     }
 }
 
@@ -123,27 +134,10 @@ fn front(bytes: &[u8], length: usize) -> &[u8] {
     }
 }
 
-/// The collection must have so many nodes.
-fn has_nodes(collection: &Collection<'_>, count: usize, seen: &mut Seen) {
-    seen.right(collection.nodes() == count, "the number of nodes");
-}
-
-/// Measures a text without long values. No memory may be asked for.
-fn measures(alloc: Global, text: &[u8], counts: (usize, usize, usize), seen: &mut Seen) {
-    let (games, nodes, leaves) = counts;
-    let extent = Extent {
-        games,
-        nodes,
-        leaves,
-    };
-    seen.call();
-    let is_so = read_extent(alloc, text) == Ok(extent);
-    seen.right(is_so, "the extent of a text without long values");
-}
-
 /// Measures a game whose node has six values of so many bytes each.
-fn values(alloc: Global, length: u16, seen: &mut Seen) {
-    let length = usize::from(length);
+fn values(alloc: Global, length: usize, seen: &mut Seen)
+    requires { length < 4098 }
+{
     let mut text = [b'x'; LONGEST];
     text[0] = b'(';
     text[1] = b';';
@@ -155,26 +149,23 @@ fn values(alloc: Global, length: u16, seen: &mut Seen) {
     let end = (3 + 6 * (length + 2)).min(LONGEST - 1);
     text[end] = b')';
     let text = front(&text, end + 1);
-    if length < 4_096 {
-        return measures(alloc, text, (1, 1, 1), seen);
-    }
-    measures_long(alloc, text, seen);
-}
-
-/// Measures a game of a node with long values. If memory was refused, measures it once more.
-fn measures_long(alloc: Global, text: &[u8], seen: &mut Seen) {
     let extent = Extent {
         games: 1,
         nodes: 1,
         leaves: 1,
     };
+    measures(alloc, text, extent, length >= 4_096, seen);
+}
+
+/// Measures a text. If it has long values and memory was refused, measures it once more. Else no memory may be asked for.
+fn measures(alloc: Global, text: &[u8], extent: Extent, is_long: bool, seen: &mut Seen) {
     seen.call();
     let measured = match read_extent(alloc, text) {
-        Err(ReadFault::Memory) => {
+        Err(ReadFault::Memory) if is_long => {
             seen.want();
             read_extent(alloc, text)
         }
         measured => measured,
     };
-    seen.right(measured == Ok(extent), "the extent of long values");
+    seen.right(measured == Ok(extent), "the extent of a text");
 }

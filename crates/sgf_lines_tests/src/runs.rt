@@ -12,38 +12,14 @@ const COMMENT: &[u8] = b"(;SZ[5]AB[ab][ba]AW[cc]C[one\ntwo];W[];B[ee])";
 /// Two lines that share an illegal node.
 const ILLEGAL: &[u8] = b"(;SZ[1];B[aa](;W[])(;C[x]))";
 
-const ILLEGAL_ROWS: [&[u8]; 2] = [
-    b"14 1 3 illegal 1 7 repeat\n",
-    b"20 1 3 illegal 1 7 repeat\n",
-];
-
 /// Three lines that share a pass. The last line has a setup.
 const PASSES: &[u8] = b"(;SZ[3];B[](;W[])(;W[bb])(;AE[aa];W[]))";
-
-const PASSES_ROWS: [&[u8]; 3] = [
-    b"12 1 3 score 0 0 over\n",
-    b"18 1 3 score 0 9 open\n",
-    b"33 1 4 score 0 0 open\n",
-];
-
-const PASSES_GAMES: [&[u8]; 3] = [
-    b"(;SZ[3];B[];W[])\n",
-    b"(;SZ[3];B[];W[bb])\n",
-    b"(;SZ[3];B[];AE[aa];W[])\n",
-];
 
 /// Two games of one line each.
 const TWO_GAMES: &[u8] = b"(;SZ[1])(;SZ[2])";
 
-const TWO_SCRIPTS: [&[u8]; 2] = [
-    b"# 1 1 1 score 0 0 open\nboardsize 1\nclear_board\n\n",
-    b"# 9 2 1 score 0 0 open\nboardsize 2\nclear_board\n\n",
-];
-
 /// Two lines of a game other than Go.
 const OTHER_GAME: &[u8] = b"(;GM[2](;)(;))";
-
-const OTHER_ROWS: [&[u8]; 2] = [b"8 1 2 unjudged game\n", b"11 1 2 unjudged game\n"];
 
 /// The row of the first line of `TWO`.
 pub const FIRST: &[u8] = b"8 1 2 score 9 0 open\n";
@@ -54,135 +30,208 @@ pub const SECOND: &[u8] = b"22 1 3 score 1 1 open\n";
 const SCRIPT: &[u8] =
     b"# 37 1 3 score 4 1 open\nboardsize 5\nclear_board\n# one\n# two\nclear_board\nplay B B5\nplay B A4\nplay W C3\nplay W pass\nplay B E1\n\n";
 
+/// The options for all lines as rows.
+pub const LIST: Options = Options {
+    form: Form::List,
+    after: None,
+    limit: None,
+};
+
+/// The options for all lines as games.
+const SGF: Options = Options {
+    form: Form::Sgf,
+    after: None,
+    limit: None,
+};
+
+/// The options for all lines as scripts.
+const GTP: Options = Options {
+    form: Form::Gtp,
+    after: None,
+    limit: None,
+};
+
 /// What a run reads, and what it writes.
-#[derive(Clone, Copy)]
-struct Run<'a> {
-    text: &'a [u8],
+struct Run {
+    text: &'static [u8],
     options: Options,
     /// The records, in order.
-    records: &'a [&'a [u8]],
+    records: &'static [&'static [u8]],
     /// How many nodes are played for the first 0, 1, 2 .. records.
-    plays: &'a [u64],
+    plays: &'static [u64],
 }
 
-/// Makes the runs.
+/// Pages of the game of two lines, and all lines of other games.
+const RUNS: [Run; 12] = [
+    Run {
+        text: TWO,
+        options: LIST,
+        records: &[FIRST, SECOND],
+        plays: &[0, 2, 4],
+    },
+    Run {
+        text: TWO,
+        options: Options {
+            form: Form::List,
+            after: Some(8),
+            limit: None,
+        },
+        records: &[SECOND],
+        plays: &[0, 3],
+    },
+    Run {
+        text: TWO,
+        options: Options {
+            form: Form::List,
+            after: Some(22),
+            limit: None,
+        },
+        records: &[],
+        plays: &[0],
+    },
+    Run {
+        text: TWO,
+        options: Options {
+            form: Form::List,
+            after: None,
+            limit: Some(1),
+        },
+        records: &[FIRST],
+        plays: &[0, 2],
+    },
+    Run {
+        text: TWO,
+        options: Options {
+            form: Form::List,
+            after: None,
+            limit: Some(0),
+        },
+        records: &[],
+        plays: &[0],
+    },
+    Run {
+        text: TWO,
+        options: Options {
+            form: Form::List,
+            after: Some(8),
+            limit: Some(1),
+        },
+        records: &[SECOND],
+        plays: &[0, 3],
+    },
+    Run {
+        text: COMMENT,
+        options: GTP,
+        records: &[SCRIPT],
+        plays: &[0, 3],
+    },
+    Run {
+        text: ILLEGAL,
+        options: LIST,
+        records: &[
+            b"14 1 3 illegal 1 7 repeat\n",
+            b"20 1 3 illegal 1 7 repeat\n",
+        ],
+        plays: &[0, 2, 2],
+    },
+    Run {
+        text: PASSES,
+        options: LIST,
+        records: &[
+            b"12 1 3 score 0 0 over\n",
+            b"18 1 3 score 0 9 open\n",
+            b"33 1 4 score 0 0 open\n",
+        ],
+        plays: &[0, 3, 4, 6],
+    },
+    Run {
+        text: PASSES,
+        options: SGF,
+        records: &[
+            b"(;SZ[3];B[];W[])\n",
+            b"(;SZ[3];B[];W[bb])\n",
+            b"(;SZ[3];B[];AE[aa];W[])\n",
+        ],
+        plays: &[0, 0, 0, 0],
+    },
+    Run {
+        text: TWO_GAMES,
+        options: GTP,
+        records: &[
+            b"# 1 1 1 score 0 0 open\nboardsize 1\nclear_board\n\n",
+            b"# 9 2 1 score 0 0 open\nboardsize 2\nclear_board\n\n",
+        ],
+        plays: &[0, 1, 2],
+    },
+    Run {
+        text: OTHER_GAME,
+        options: LIST,
+        records: &[b"8 1 2 unjudged game\n", b"11 1 2 unjudged game\n"],
+        plays: &[0, 0, 0],
+    },
+];
+
+/// Makes each run, first without and then with a count of plays.
 pub fn calls(alloc: Global, seen: &mut Seen) {
-    pages(alloc, seen);
-    for (text, form, records, plays) in [
-        (COMMENT, Form::Gtp, [SCRIPT].as_slice(), [0, 3].as_slice()),
-        (ILLEGAL, Form::List, &ILLEGAL_ROWS, &[0, 2, 2]),
-        (PASSES, Form::List, &PASSES_ROWS, &[0, 3, 4, 6]),
-        (PASSES, Form::Sgf, &PASSES_GAMES, &[0, 0, 0, 0]),
-        (TWO_GAMES, Form::Gtp, &TWO_SCRIPTS, &[0, 1, 2]),
-        (OTHER_GAME, Form::List, &OTHER_ROWS, &[0, 0, 0]),
-    ] {
-        let run = Run {
-            text,
-            options: Options::all(form),
-            records,
-            plays,
-        };
-        splits(alloc, run, seen);
-        splits_with_plays(alloc, run, seen);
+    for run in &RUNS {
+        splits(alloc, run, false, seen);
+        splits(alloc, run, true, seen);
     }
 }
 
-/// Makes the runs over pages of the game of two lines.
-fn pages(alloc: Global, seen: &mut Seen) {
-    for (after, limit, records, plays) in [
-        (None, None, [FIRST, SECOND].as_slice(), [0, 2, 4].as_slice()),
-        (Some(8), None, &[SECOND], &[0, 3]),
-        (Some(22), None, &[], &[0]),
-        (None, Some(1), &[FIRST], &[0, 2]),
-        (None, Some(0), &[], &[0]),
-        (Some(8), Some(1), &[SECOND], &[0, 3]),
-    ] {
-        let run = Run {
-            text: TWO,
-            options: Options {
-                form: Form::List,
-                after,
-                limit,
-            },
-            records,
-            plays,
-        };
-        splits(alloc, run, seen);
-        splits_with_plays(alloc, run, seen);
-    }
-}
-
-/// Splits a text. If memory was refused, the sink must hold whole records of
-/// the first lines and nothing else, and not be flushed. Then splits once more.
-fn splits(alloc: Global, run: Run<'_>, seen: &mut Seen) {
+/// Splits a text, and splits it once more if memory was refused.
+fn splits(alloc: Global, run: &Run, is_counted: bool, seen: &mut Seen) {
     seen.call();
-    let mut source = SliceSource::new(run.text);
-    let mut page = Page::new();
-    match split(alloc, &mut source, &mut page, &run.options) {
-        Err(RunFault::Memory { lines }) => is_cut(lines, &page, run, seen),
-        answer => return is_whole(answer, &page, run, seen),
+    if !splits_once(alloc, run, is_counted, seen) {
+        let is_whole = splits_once(alloc, run, is_counted, seen);
+        seen.right(is_whole, "a run was refused memory twice");
     }
+}
+
+/// Splits a text. Returns false if memory was refused.
+fn splits_once(alloc: Global, run: &Run, is_counted: bool, seen: &mut Seen) -> bool {
     let mut source = SliceSource::new(run.text);
     let mut page = Page::new();
-    let answer = split(alloc, &mut source, &mut page, &run.options);
+    let mut plays = Plays::new();
+    let answer = if is_counted {
+        split_counted(alloc, &mut source, &mut page, &run.options, &mut plays)
+    } else {
+        split(alloc, &mut source, &mut page, &run.options)
+    };
+    if let Err(RunFault::Memory { lines }) = answer {
+        is_cut(lines, &page, run, seen);
+        let next = lines.saturating_add(1).min(run.records.len() as u64);
+        let least = plays_of(run, lines, is_counted);
+        let most = plays_of(run, next, is_counted);
+        seen.right(least <= plays.count(), "plays of the lines");
+        seen.right(plays.count() <= most, "plays of the next line");
+        return false;
+    }
     is_whole(answer, &page, run, seen);
+    let all = plays_of(run, run.records.len() as u64, is_counted);
+    seen.right(plays.count() == all, "the plays");
+    true
 }
 
-/// Does the same with a count of plays. If memory was refused, the count must be at least
-/// the number of plays for the written lines, and at most that for one more line.
-fn splits_with_plays(alloc: Global, run: Run<'_>, seen: &mut Seen) {
-    seen.call();
-    let mut source = SliceSource::new(run.text);
-    let mut page = Page::new();
-    let mut plays = Plays::new();
-    match split_counted(alloc, &mut source, &mut page, &run.options, &mut plays) {
-        Err(RunFault::Memory { lines }) => {
-            is_cut(lines, &page, run, seen);
-            let next = lines.saturating_add(1).min(run.records.len() as u64);
-            let count = plays.count();
-            seen.right(plays_of(run, lines) <= count, "plays of the lines");
-            seen.right(count <= plays_of(run, next), "plays of the next line");
-        }
-        answer => return is_whole_with_plays(answer, &page, &plays, run, seen),
-    }
-    let mut source = SliceSource::new(run.text);
-    let mut page = Page::new();
-    let mut plays = Plays::new();
-    let answer = split_counted(alloc, &mut source, &mut page, &run.options, &mut plays);
-    is_whole_with_plays(answer, &page, &plays, run, seen);
-}
-
-/// How many nodes are played for the first `lines` records.
-fn plays_of(run: Run<'_>, lines: u64) -> u64 {
+/// How many nodes are played for the first `lines` records; 0 if they aren't counted.
+fn plays_of(run: &Run, lines: u64, is_counted: bool) -> u64 {
     match run.plays.get(lines as usize) {
-        Some(plays) => *plays,
+        Some(plays) if is_counted => *plays,
+        Some(_) => 0,
         None => u64::MAX,
     }
 }
 
-/// The run must have written the first `lines` records, and not flushed.
-fn is_cut(lines: u64, page: &Page, run: Run<'_>, seen: &mut Seen) {
+/// The run must have written the first `lines` records, whole ones and nothing else, and not flushed.
+fn is_cut(lines: u64, page: &Page, run: &Run, seen: &mut Seen) {
     seen.want();
     seen.right(page.flushes() == 0, "a flush after refused memory");
     let are_first = has_first(page.as_slice(), run.records, lines);
     seen.right(are_first, "records after refused memory");
 }
 
-/// The run must have written all records, flushed once, and counted the plays for all records.
-fn is_whole_with_plays(
-    answer: Result<u64, RunFault>,
-    page: &Page,
-    plays: &Plays,
-    run: Run<'_>,
-    seen: &mut Seen,
-) {
-    is_whole(answer, page, run, seen);
-    let all = plays_of(run, run.records.len() as u64);
-    seen.right(plays.count() == all, "the plays");
-}
-
 /// The run must have written all records, and flushed once.
-fn is_whole(answer: Result<u64, RunFault>, page: &Page, run: Run<'_>, seen: &mut Seen) {
+fn is_whole(answer: Result<u64, RunFault>, page: &Page, run: &Run, seen: &mut Seen) {
     let lines = run.records.len() as u64;
     seen.right(answer == Ok(lines), "the answer of a run");
     let are_all = has_first(page.as_slice(), run.records, lines);
@@ -197,14 +246,10 @@ fn has_first(bytes: &[u8], records: &[&[u8]], lines: u64) -> bool {
     }
     let mut rest = bytes;
     for record in &records[..lines as usize] {
-        if rest.len() < record.len() {
-            return false;
+        match rest.strip_prefix(*record) {
+            Some(after) => rest = after,
+            None => return false,
         }
-        let (front, after) = rest.split_at(record.len());
-        if front != *record {
-            return false;
-        }
-        rest = after;
     }
     rest.is_empty()
 }

@@ -10,10 +10,10 @@ use std::fmt;
 pub struct Seen {
     calls: u32,
     wants: u32,
-    /// The name of the calls that are made now.
-    growth: Option<&'static str>,
+    /// The name of the calls that are made now; empty if they have none.
+    growth: &'static str,
     /// The name of the calls of which one was refused memory last.
-    wanted_in: Option<&'static str>,
+    wanted_in: &'static str,
     wrong: Option<&'static str>,
 }
 
@@ -23,20 +23,15 @@ impl Seen {
         Seen {
             calls: 0,
             wants: 0,
-            growth: None,
-            wanted_in: None,
+            growth: "",
+            wanted_in: "",
             wrong: None,
         }
     }
 
-    /// The calls that follow need more room than is taken at first. This is their name.
+    /// The calls that follow need more room than is taken at first, and this is their name. If it is empty, they have none.
     pub fn growth(&mut self, name: &'static str) {
-        self.growth = Some(name);
-    }
-
-    /// The calls that follow have no name.
-    pub fn no_growth(&mut self) {
-        self.growth = None;
+        self.growth = name;
     }
 
     /// Counts a call.
@@ -78,9 +73,9 @@ impl Seen {
 impl fmt::Display for Seen {
     fn fmt<W: fmt::Write>(&self, f: &mut fmt::Formatter<W>) -> fmt::Result {
         write!(f, "{} calls, {} wants of memory", self.calls, self.wants)?;
-        match self.wanted_in {
-            Some(name) => write!(f, " by {name}"),
-            None => Ok(()),
+        if self.wanted_in.is_empty() {
+            return Ok(());
         }
+        write!(f, " by {}", self.wanted_in)
     }
 }

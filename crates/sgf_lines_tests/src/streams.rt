@@ -3,21 +3,13 @@
 
 ghost use Rattle.std.specs.Prelude.{◌≡◌, ◌≤◌, None, []};
 
-use crate::runs::{FIRST, SECOND};
+use crate::runs::{FIRST, LIST, SECOND};
 use crate::seen::Seen;
 use crate::tree::TWO;
 use sgf_lines::{
-    ArraySink, Form, Options, RunFault, Sink, SinkFault, SliceSource, Source, SourceFault, count,
-    split,
+    ArraySink, RunFault, Sink, SinkFault, SliceSource, Source, SourceFault, count, split,
 };
 use std::alloc::Global;
-
-/// The options for all lines as rows.
-const ROWS: Options = Options {
-    form: Form::List,
-    after: None,
-    limit: None,
-};
 
 /// The length of the two rows in bytes.
 const LENGTH: usize = FIRST.len() + SECOND.len();
@@ -28,10 +20,10 @@ pub fn calls(alloc: Global, seen: &mut Seen) {
         source_fails(alloc, calls, seen);
         count_fails(alloc, calls, seen);
     }
-    for step in [1, 7, 64] {
+    for &step in &[1, 7, 64] {
         for room in 0..LENGTH + 1 {
-            flush_fails(alloc, step, room, seen);
-            sink_fails(alloc, step, room, seen);
+            sink_fails(alloc, step, room, false, seen);
+            sink_fails(alloc, step, room, true, seen);
         }
     }
     array_is_full(alloc, seen);
@@ -85,7 +77,7 @@ fn source_fails(alloc: Global, calls: usize, seen: &mut Seen) {
     seen.call();
     let mut source = byte_by_byte(calls);
     let mut sink = ArraySink::<64>::new();
-    let answer = split(alloc, &mut source, &mut sink, &ROWS);
+    let answer = split(alloc, &mut source, &mut sink, &LIST);
     let fails = calls <= TWO.len();
     let written = sink.as_slice().len();
     match answer {
@@ -101,23 +93,17 @@ fn source_fails(alloc: Global, calls: usize, seen: &mut Seen) {
 fn rest_at_once(seen: &mut Seen) {
     let mut source = SliceSource::new(TWO);
     let mut first = [0u8; 3];
-    seen.right(
-        source.get(&mut first).is_ok_and(|count| count == 3),
-        "the first bytes",
-    );
+    seen.right(source.get(&mut first) == Ok(3), "the first bytes");
     let left = TWO.len() - 3;
     seen.right(
         source.give_rest(left - 1).is_none(),
         "more bytes at once than asked for",
     );
     seen.right(
-        source.give_rest(left).is_some_and(|rest| rest == &TWO[3..]),
+        source.give_rest(left) == Some(&TWO[3..]),
         "the other bytes at once",
     );
-    seen.right(
-        source.get(&mut first).is_ok_and(|count| count == 0),
-        "bytes given twice",
-    );
+    seen.right(source.get(&mut first) == Ok(0), "bytes given twice");
     nothing_at_once(seen);
 }
 
@@ -201,36 +187,25 @@ impl Sink for Narrow {
     }
 }
 
-/// A run to a sink with this room and a failing flush. The sink must have what fits, and the fault the number of whole records.
-fn flush_fails(alloc: Global, step: usize, room: usize, seen: &mut Seen) {
+/// A run to a sink with this room. The run must fail, unless all fits and the sink can flush. The sink must have what fits, and the fault
+/// the number of whole records.
+fn sink_fails(alloc: Global, step: usize, room: usize, can_flush: bool, seen: &mut Seen) {
     seen.call();
     let mut source = SliceSource::new(TWO);
-    let mut sink = sink_of(step, room, false);
-    match split(alloc, &mut source, &mut sink, &ROWS) {
-        Err(RunFault::Memory { .. }) => seen.want(),
-        Err(RunFault::Write { lines }) => {
-            seen.right(lines == whole(room), "the lines before a failed write");
-            let fits = is_front(&sink.bytes[..sink.taken], room);
-            seen.right(fits, "what stands after a failed write");
-        }
-        _ => seen.wrong("a run whose sink fails"),
+    let mut sink = sink_of(step, room, can_flush);
+    let answer = split(alloc, &mut source, &mut sink, &LIST);
+    if let Err(RunFault::Memory { .. }) = answer {
+        return seen.want();
     }
-}
-
-/// A run to a sink with this room. The run must fail, unless all fits.
-fn sink_fails(alloc: Global, step: usize, room: usize, seen: &mut Seen) {
-    seen.call();
-    let mut source = SliceSource::new(TWO);
-    let mut sink = sink_of(step, room, true);
-    let fits = room >= LENGTH;
-    match split(alloc, &mut source, &mut sink, &ROWS) {
-        Err(RunFault::Memory { .. }) => seen.want(),
-        Err(RunFault::Write { lines }) => {
-            seen.right(lines == whole(room) && !fits, "a failed write")
-        }
-        Ok(lines) => seen.right(lines == 2 && fits, "little at a time"),
-        Err(_) => seen.wrong("a run whose sink is narrow"),
-    }
+    let fits = is_front(&sink.bytes[..sink.taken], room);
+    seen.right(fits, "what a narrow sink has taken");
+    let lines = whole(room);
+    let wanted = if can_flush && lines == 2 {
+        Ok(2)
+    } else {
+        Err(RunFault::Write { lines })
+    };
+    seen.right(answer == wanted, "the answer of a run to a narrow sink");
 }
 
 /// A run to an array that has no room for the whole second row. The array takes what fits.
@@ -238,7 +213,7 @@ fn array_is_full(alloc: Global, seen: &mut Seen) {
     seen.call();
     let mut source = SliceSource::new(TWO);
     let mut sink = ArraySink::<30>::new();
-    match split(alloc, &mut source, &mut sink, &ROWS) {
+    match split(alloc, &mut source, &mut sink, &LIST) {
         Err(RunFault::Memory { .. }) => seen.want(),
         Err(RunFault::Write { lines }) => {
             let fits = is_front(sink.as_slice(), 30);

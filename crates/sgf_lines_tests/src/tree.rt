@@ -30,28 +30,18 @@ const TEXTS: [(&str, &str); 9] = [
 
 /// Makes the calls.
 pub fn calls(alloc: Global, seen: &mut Seen) {
-    two(alloc, seen);
-    first_fault(alloc, seen);
-    fronts(alloc, seen);
+    if let Ok(two) = collection(alloc, TWO, seen) {
+        seen.right(is_two(&two), "the collection read");
+    }
+    first_faults(alloc, seen);
     names(alloc, seen);
     texts(alloc, seen);
 }
 
-/// The game of two lines is read.
-fn two(alloc: Global, seen: &mut Seen) {
-    if let Ok(two) = collection(alloc, TWO, seen) {
-        seen.right(is_two(&two), "the collection read");
-    }
-}
-
-/// A game without a node is faulty at byte 1.
-fn first_fault(alloc: Global, seen: &mut Seen) {
+/// A game without a node is faulty at byte 1. Each proper prefix of the game of two lines ends too early.
+fn first_faults(alloc: Global, seen: &mut Seen) {
     let at = faulty_byte(alloc, b"(B[aa])", seen);
     seen.right(at == Some(1), "the first fault");
-}
-
-/// Each proper prefix of the game of two lines ends too early.
-fn fronts(alloc: Global, seen: &mut Seen) {
     for length in 0..TWO.len() {
         let at = faulty_byte(alloc, &TWO[..length], seen);
         seen.right(at == Some(length), "where a front ends");

@@ -25,7 +25,7 @@ pub use Rattle.sgf_outline.specs.Machine.{after_game, close, close_in, games_in,
 pub use Rattle.sgf_outline.specs.Move.{EndsNode, IsMove, IsMoveNode, IsShortProperty}
 pub use Rattle.sgf_outline.specs.NodesLeft.{NodesLeft}
 pub use Rattle.sgf_outline.specs.Outlining.{AreKept, AreTold, AreWhole, game_by, HasSegments, HoldsSequences, is_last_by, is_written_by, IsCopiedFirst, IsKept, IsOutlined, nodes_of, outer_by, start_by}
-pub use Rattle.sgf_outline.specs.OwnNodes.{AreOwnNodes, Coming, coming_of, Copies, is_written, IsCopied, nothing, own_of, with_game, with_text}
+pub use Rattle.sgf_outline.specs.OwnNodes.{AreOwnNodes, Coming, coming_of, Copies, IsCopied, nothing, own_of, with_game, with_text}
 pub use Rattle.sgf_outline.specs.Spelling.{AreGames, AreNodes, AreProperties, byte_order_mark, ByteOrderMark, games, is_upper, is_white_space, IsNode, IsProperty, no_byte_order_mark, no_game, no_letter, no_node, no_property, no_value, no_white_space, node, nodes, prop_value, properties, property, Spells, spells, upper, white_space, WhiteSpace}
 pub use Rattle.sgf_outline.specs.Tree.{game, game_count, Games, joined, lone_property, no_games, Node, node_count, Property}
 pub use Rattle.sgf_outline.specs.Unclosed.{unclosed_count}

@@ -1,11 +1,15 @@
 -- What the table of sequences keeps: with one more sequence, and after a game that ends.
-use Rattle.sgf_outline.proofs.Common.{◌≡◌, ℕ, ◌+◌, ◌-◌, ◌/◌, ◌%◌, ◌<◌, ◌≤◌, Bool, true, false, cond, inl, inr, List, [], ◌∷◌, ◌++◌, length, get_or, drop, slice_get, slice_range, Option, Some, None, refl, sym, ap, subst, ◌∙◌, arith, length-append, rules, eqb, eqb-true, flat_map, common_steps, drop-append-le, slice_get-get_or, slice_get_within, Segment, KeptSegment, Sequence, Sequences, Listed, unclosed_list, UnclosedGame, Stack, after_game, whole_game, close, outer_by, start_by, is_last_by, nodes_of, AreTold, AreWhole, HasSegments, IsKept, AreKept, HoldsSequences, Coming, nothing, with_text, coming_of, is_written, IsCopied, AreOwnNodes, own_of, with_game, Node, Games, no_games, unclosed_count, node_text}
+use Rattle.sgf_outline.proofs.Common.{◌≡◌, ℕ, ◌+◌, ◌-◌, ◌/◌, ◌%◌, ◌<◌, ◌≤◌, Bool, true, false, cond, List, [], ◌∷◌, ◌++◌, length, get_or, drop, slice_get, slice_range, Option, Some, None, refl, sym, ap, subst, ◌∙◌, arith, length-append, rules, eqb, eqb-true, flat_map, common_steps, drop-append-le, slice_get-get_or, slice_get_within, Segment, KeptSegment, Sequence, Sequences, Listed, unclosed_list, UnclosedGame, Stack, after_game, whole_game, close, outer_by, start_by, is_last_by, AreTold, AreWhole, HasSegments, IsKept, AreKept, HoldsSequences, Coming, nothing, with_text, coming_of, IsCopied, AreOwnNodes, own_of, with_game, Node, Games, no_games, unclosed_count, node_text}
 use Rattle.std.proofs.Math.Seq.{drop-length}
 use Rattle.sgf_outline.specs.declared.layout.OwnNodes.{OwnNodes}
 use Rattle.sgf_outline.proofs.GameEnds.{add_games, game-ends, unclosed_games-least, unclosed_count-closed, game_count-closed}
 use Rattle.sgf_outline.proofs.Listed.{before, own, unclosed_list-least, unclosed_list-nodes, list-closed, innermost-closed}
 use Rattle.sgf_outline.proofs.Lists.{slice_get-pushed, slice_get-right}
 use Rattle.sgf_outline.proofs.SegmentsKept.{told-more, told-whole, whole-grown, whole-within}
+
+-- whether the sgf form writes all the nodes as they stand in the text
+abbrev pub is_written : OwnNodes → Bool
+is_written own = eqb own.segment.start own.first
 
 -- a word that a number and the flags of a sequence are kept in
 pub record Packs (word : ℕ) (written : Bool) (outer : Option ℕ) (ordinal : ℕ) : Type 0 where
@@ -42,17 +46,7 @@ module _ (text : List ℕ) where
   kept-grown : (segments more : List KeptSegment) (table : List Sequence) (sequences : List Listed) → AreKept text segments table sequences → AreKept text (segments ++ more) table sequences
   kept-grown segments more table sequences are = record {
     count = are.count;
-    each = λ i k s here there. let is = are.each i k s here there in record {
-      number_is = is.number_is;
-      outer_is = is.outer_is;
-      ordinal_is = is.ordinal_is;
-      first_is = is.first_is;
-      last_is = is.last_is;
-      rises = is.rises;
-      within = is.within;
-      written = is.written;
-      segmented = λ e. segments-grown segments more k.end (nodes_of s) (is.segmented e);
-    };
+    each = λ i k s here there. let is = are.each i k s here there in search (rules, segments-grown);
   }
 
   -- one more sequence
@@ -60,16 +54,7 @@ module _ (text : List ℕ) where
       → AreKept text segments table sequences → IsKept text segments kept sequence → AreKept text segments (table ++ kept ∷ []) (sequences ++ sequence ∷ [])
   kept-pushed segments table sequences kept sequence are is = record {
     count = omega (arith, are.count, length-append table (kept ∷ []), length-append sequences (sequence ∷ []));
-    each = λ i k s here there. elim (slice_get-pushed table kept k i here) [
-      | inl old ↦ elim (slice_get-pushed sequences sequence s i there) [
-        | inl listed ↦ are.each i k s old listed
-        | inr last ↦ absurd (omega (arith, are.count, slice_get_within table i k old, last.0))
-      ]
-      | inr new ↦ elim (slice_get-pushed sequences sequence s i there) [
-        | inl listed ↦ absurd (omega (arith, are.count, slice_get_within sequences i s listed, new.0))
-        | inr last ↦ rw (← new.1, ← last.1) is
-      ]
-    ];
+    each = λ i k s here there. grind (arith, common_steps, slice_get-pushed table kept k i here, slice_get-pushed sequences sequence s i there, slice_get_within, are.each i k s);
   }
 
   own-kept : (own : OwnNodes) (g : UnclosedGame) (segments : List KeptSegment) (begun end number word ordinal : ℕ) (outer : Option ℕ)

@@ -1,5 +1,5 @@
 -- A move and other properties after it.
-use Rattle.sgf_outline.proofs.Common.{rules, ◌≡◌, ◌≢◌, ℕ, ◌+◌, ◌<◌, ◌≤◌, IsTrue, All, List, [], ◌∷◌, ◌++◌, length, get_or, drop, slice_range, refl, sym, ap, subst, ◌∙◌, arith, common_steps, All-nil, All-push, properties_in, IsValueEnd, IsValue, games_in, EndsNode, is_upper, no_white_space, no_letter, upper, prop_value, no_value, IsProperty, property, AreProperties, no_property, properties, Property, IsOtherProperty, AreOtherProperties, AreOthers, IsLedNode, IsEmptyNode, IsNodeEnd, node_in, nodes_between, IsTraversal, byte-at, properties-in}
+use Rattle.sgf_outline.proofs.Common.{rules, ◌≡◌, ◌≢◌, ℕ, ◌+◌, ◌<◌, ◌≤◌, IsTrue, All, List, [], ◌∷◌, ◌++◌, length, get_or, drop, slice_range, sym, subst, arith, common_steps, All-nil, All-push, properties_in, IsValueEnd, IsValue, games_in, EndsNode, is_upper, no_white_space, no_letter, upper, prop_value, no_value, IsProperty, property, AreProperties, no_property, properties, Property, IsOtherProperty, AreOtherProperties, AreOthers, IsLedNode, IsEmptyNode, IsNodeEnd, node_in, nodes_between, IsTraversal, byte-at, properties-in}
 use Rattle.sgf_outline.specs.Lead.{IsOtherName, IsLedBy}
 use Rattle.sgf_outline.proofs.LoneNodes.{lone, spelled, ends-node, nothing-skipped}
 use Rattle.sgf_outline.proofs.Traversing.{past-node}
@@ -12,26 +12,14 @@ module _ (t : List ℕ) (start close : ℕ) (bracket : get_or t (start + 2) 0 �
 
   other-spelled : IsTrue (is_upper (get_or t start 0)) → IsTrue (is_upper (get_or t (start + 1) 0)) → IsProperty other (drop start t) (drop (close + 1) t)
   other-spelled first second =
-      let within : start + 3 < length t = omega (arith, value.rises, value.within) in
-      let two : start + 1 + 1 ≡ start + 2 = omega arith in
-      let three : start + 2 + 1 ≡ start + 3 = omega arith in
-      let here : drop start t ≡ get_or t start 0 ∷ get_or t (start + 1) 0 ∷ 91 ∷ drop (start + 3) t =
-      byte-at t start (omega arith) ∙ ap (λ u. get_or t start 0 ∷ u) (byte-at t (start + 1) (omega arith) ∙ ap (λ i. get_or t (start + 1) 0 ∷ drop i t) two
-      ∙ ap (λ u. get_or t (start + 1) 0 ∷ u) (byte-at t (start + 2) (omega arith) ∙ ap (λ b. b ∷ drop (start + 2 + 1) t) bracket ∙ ap (λ i. 91 ∷ drop i t) three)) in
-      let closed : drop close t ≡ 93 ∷ drop (close + 1) t = byte-at t close value.within ∙ ap (λ b. b ∷ drop (close + 1) t) value.bracket in
+      let here : drop start t ≡ get_or t start 0 ∷ get_or t (start + 1) 0 ∷ 91 ∷ drop (start + 3) t = grind (arith, common_steps, byte-at) in
+      let closed : drop close t ≡ 93 ∷ drop (close + 1) t = grind (arith, common_steps, byte-at) in
       subst (λ u. IsProperty other u (drop (close + 1) t)) (sym here)
       (property no_white_space first (upper second no_letter) (prop_value no_white_space (subst (IsValue (slice_range t (start + 3) close) (drop (start + 3) t)) closed value.spelled)) no_value)
 
   pub other-property : (names : List (List ℕ)) → IsTrue (is_upper (get_or t start 0)) → IsTrue (is_upper (get_or t (start + 1) 0))
       → All (λ known. get_or t start 0 ∷ get_or t (start + 1) 0 ∷ [] ≢ known) names → IsOtherProperty names t start (close + 1)
-  other-property names first second none =
-      record {
-        rises = omega (arith, value.rises);
-        within = omega (arith, value.within);
-        property = other;
-        spelled = other-spelled first second;
-        named = record { letters = refl; other = none };
-      }
+  other-property names first second none = search (rules, other-spelled)
 
 -- such properties, one after another
 module _ (names : List (List ℕ)) (t : List ℕ) where

@@ -1,5 +1,5 @@
 -- Each node's properties are spelled in the text from its `;` on.
-use Rattle.sgf_outline.proofs.Common.{◌≡◌, ◌≢◌, ℕ, ◌+◌, ◌-◌, false, List, ◌∷◌, length, drop, All, Option, Some, None, refl, sym, ap, subst, ◌∙◌, arith, rules, common_steps, All-nil, All-cons, All-append, NoPropertyFollows, OrderedNode, further_nodes, nodes_from, ordered_nodes, is_white_space, is_upper, WhiteSpace, AreProperties, IsNode, node, AreNodes, no_node, nodes, AreGames, no_game, games, Spells, spells, Node, Games, node_count}
+use Rattle.sgf_outline.proofs.Common.{◌≡◌, ◌≢◌, ℕ, ◌+◌, ◌-◌, false, List, ◌∷◌, length, drop, All, Option, Some, None, refl, arith, rules, common_steps, All-nil, All-cons, All-append, NoPropertyFollows, OrderedNode, further_nodes, nodes_from, ordered_nodes, is_white_space, is_upper, WhiteSpace, AreProperties, IsNode, node, AreNodes, no_node, nodes, AreGames, no_game, games, Spells, spells, Node, Games, node_count}
 use Rattle.sgf_properties.proofs.Ends.{IsEnd, all, tail, end-drop, end-WhiteSpace}
 use Rattle.sgf_outline.proofs.Ends.{end-IsNode, end-AreNodes, end-AreGames, end-ByteOrderMark}
 use Rattle.sgf_properties.proofs.Classes.{white-not_upper, white-not_bracket}
@@ -26,14 +26,10 @@ module _ (t : List ℕ) where
   node-spelled : {n : Node} {s r : List ℕ} → IsNode (length t) n s r → IsEnd t s → NoPropertyFollows r → IsNodeSpelled n
   node-spelled {r = r} (node {place} {ps} {t = u} w e own) end ends =
       let dropped = end-drop (tail (end-WhiteSpace w end)) in
+      let white = end-drop (end-WhiteSpace w end) in
       let at : place + 1 ≡ length t - length u = omega (arith, e) in
       let here : place ≡ length t - length (59 ∷ u) = omega (arith, e) in
-      record {
-        begins = ap (λ k. drop k t) here ∙ (end-drop (end-WhiteSpace w end)).1 ∙ ap (λ x. 59 ∷ x) (sym dropped.1 ∙ ap (λ k. drop k t) (sym at));
-        rest = r;
-        spelled = subst (λ k. AreProperties ps (drop k t) r) (sym at) (subst (λ x. AreProperties ps x r) (sym dropped.1) own);
-        ends = ends;
-      }
+      grind (arith, common_steps)
 
   abbrev Spelled : OrderedNode → Type 0
   Spelled r = IsNodeSpelled r.node

@@ -1,5 +1,5 @@
 -- Laws on the ordered nodes of a collection: where parents stand, and in which game.
-use Rattle.sgf_outline.proofs.Common.{◌≡◌, ℕ, zero, suc, ◌+◌, ◌-◌, ◌<◌, ◌≤◌, ◌⊎◌, inl, inr, true, List, [], ◌∷◌, ◌++◌, length, slice_get, Option, Some, None, option_map, refl, sym, ap, ◌∙◌, arith, length-append, rules, lt-ltb, le-ltb, cases_lt, common_steps, OrderedNode, further_nodes, nodes_from, ordered_nodes, parent_at, game_of, Node, Games, no_games, game, node_count}
+use Rattle.sgf_outline.proofs.Common.{slice_get_within, ◌≡◌, ℕ, zero, suc, ◌+◌, ◌-◌, ◌<◌, ◌≤◌, ◌⊎◌, inl, inr, true, List, [], ◌∷◌, ◌++◌, length, slice_get, Option, Some, None, option_map, refl, sym, ap, ◌∙◌, arith, length-append, rules, lt-ltb, le-ltb, cases_lt, common_steps, OrderedNode, further_nodes, nodes_from, ordered_nodes, parent_at, game_of, Node, Games, no_games, game, node_count}
 use Rattle.sgf_outline.proofs.Lists.{slice_get-left, slice_get-right}
 
 -- the parent of the node of a number
@@ -13,9 +13,7 @@ pub parent_in-right : (xs ys : List OrderedNode) (i k : ℕ) → i ≡ length xs
 parent_in-right xs ys i k h = ap (option_map (λ (r : OrderedNode). r.parent)) (slice_get-right xs ys i k h)
 
 pub parent_in-within : (rs : List OrderedNode) (j : ℕ) (p : Option ℕ) → parent_in rs j ≡ Some p → j < length rs
-parent_in-within [] j p h = absurd (cc)
-parent_in-within (r ∷ rs) zero p h = omega arith
-parent_in-within (r ∷ rs) (suc j) p h = omega (arith, parent_in-within rs j p h)
+parent_in-within rs j p h = grind (arith, common_steps, slice_get_within)
 
 pub length-further_nodes : (last : ℕ) (ns : List Node) → length (further_nodes last ns) ≡ length ns
 length-further_nodes last [] = refl
@@ -63,13 +61,7 @@ joined-within : (at start : ℕ) (xs ys : List OrderedNode) (j i : ℕ) (P : Typ
     → (j < length xs → parent_in xs j ≡ Some (Some i) → P ⊎ IsParentWithin at xs j i)
     → ((k : ℕ) → j ≡ length xs + k → parent_in ys k ≡ Some (Some i) → P ⊎ IsParentWithin at (xs ++ ys) j i)
     → P ⊎ IsParentWithin at (xs ++ ys) j i
-joined-within at start xs ys j i P e h left right =
-    elim (cases_lt j (length xs)) [
-      | inl lt ↦ search (rules, parent_in-left, within-left)
-      | inr le ↦
-          let same : j ≡ length xs + (j - length xs) = omega arith in
-          right (j - length xs) same (sym (parent_in-right xs ys j (j - length xs) same) ∙ h)
-    ]
+joined-within at start xs ys j i P e h left right = grind (arith, common_steps, cases_lt j (length xs), parent_in-left, within-left, parent_in-right xs ys j (j - length xs), right (j - length xs))
 
 -- a node that has the parent i has the parent of all these games, or i is one of their nodes
 pub parent-within : (at : ℕ) (parent : Option ℕ) (g : Games) (j i : ℕ) → parent_in (nodes_from at parent g) j ≡ Some (Some i) → (parent ≡ Some i) ⊎ IsParentWithin at (nodes_from at parent g) j i
@@ -104,14 +96,11 @@ parent_at-within c i p h = parent_in-within (ordered_nodes c) i p h
 
 -- a parent stands before its node
 pub parent_at-lt : (c : Games) (j i : ℕ) → parent_at c j ≡ Some (Some i) → i < j
-parent_at-lt c j i h =
-    elim (parent-within 0 None c j i h) [ inl p ↦ absurd (cc) | inr w ↦ let lt : i < 0 + j = w.before in omega arith ]
+parent_at-lt c j i h = grind (arith, common_steps, parent-within 0 None c j i h)
 
 -- a node that is a parent is the one of the node after it
 pub next-child : (c : Games) (j i : ℕ) → parent_at c j ≡ Some (Some i) → parent_at c (i + 1) ≡ Some (Some i)
-next-child c j i h =
-    let e : i + 1 ≡ suc i - 0 = omega arith in
-    elim (parent-within 0 None c j i h) [ inl p ↦ absurd (cc) | inr w ↦ ap (parent_at c) e ∙ w.next ]
+next-child c j i h = grind (arith, common_steps, parent-within 0 None c j i h)
 
 -- there is an ordered node for each node
 pub length-ordered_nodes : (c : Games) → length (ordered_nodes c) ≡ node_count c
@@ -131,21 +120,7 @@ game_of-from at (game first more below after) j i h =
     let front : List OrderedNode = record { node = first; parent = None; opens = true } ∷ further_nodes at more ++ nodes_from (last + 1) (Some last) below in
     let start : ℕ = last + 1 + node_count below in
     let size : ℕ = 1 + length more + node_count below in
-    let fronts : length front ≡ size = omega (arith, length-append (record { node = first; parent = None; opens = true } ∷ further_nodes at more) (nodes_from (last + 1) (Some last) below), length-further_nodes at more, length-nodes_from (last + 1) (Some last) below) in
-    elim (cases_lt j size) [
-      | inl lt ↦
-          elim (parent-within at None (game first more below after) j i h) [
-            | inl p ↦ absurd (cc)
-            | inr w ↦ game-first first more below after (i - at) (omega (arith, w.from, w.before)) ∙ sym (game-first first more below after j lt)
-          ]
-      | inr le ↦
-          let k : ℕ = j - size in
-          let in_after : parent_in (nodes_from start None after) k ≡ Some (Some i) = sym (parent_in-right front (nodes_from start None after) j k (omega arith)) ∙ h in
-          elim (parent-within start None after k i in_after) [
-            | inl p ↦ absurd (cc)
-            | inr w ↦ search (rules, game-after, (game_of-from start after k i in_after))
-          ]
-    ]
+    grind (arith, common_steps, length-append, length-further_nodes, length-nodes_from, cases_lt j size, parent-within at None (game first more below after) j i h, game-first, parent_in-right front (nodes_from start None after) j (j - size), parent-within start None after (j - size) i, game-after, game_of-from start after (j - size) i)
 
 -- a node is in the game of its parent
 pub game_of-parent : (c : Games) (j i : ℕ) → parent_at c j ≡ Some (Some i) → game_of c i ≡ game_of c j

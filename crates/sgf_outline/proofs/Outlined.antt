@@ -1,5 +1,5 @@
 -- What the table of an outline says of its nodes and sequences.
-use Rattle.sgf_outline.proofs.Common.{◌≡◌, ℕ, zero, suc, ◌+◌, ◌-◌, ◌<◌, ◌≤◌, true, false, inl, inr, List, [], ◌∷◌, ◌++◌, length, map, drop, get_or, slice_get, slice_range, Option, Some, None, option_map, refl, sym, ap, subst, ◌∙◌, arith, length-append, rules, MatchOption, ◌≢◌, flat_map, drop-drop, length-drop, cases_lt, common_steps, length-map, get_or_default, get_or_past, slice_get-get_or, get_or_from_slice_get, slice_get_within, slice_get_read, slice_get-map, same_Some, KeptSegment, Sequence, Sequences, OrderedNode, further_nodes, ordered_nodes, node_at, nodes_at, place_at, parent_at, IsLeaf, game_of, sequence_starts, sequence_start, sequence_end, sequence_numbers, Listed, sequences_of, games_in, outer_by, game_by, is_written_by, nodes_of, HasSegments, IsKept, AreKept, IsOutlined, Spells, Node, Games, node_count, node_text, node_in, IsNodeIn, range_with_len, properties-in}
+use Rattle.sgf_outline.proofs.Common.{◌≡◌, ℕ, zero, suc, ◌+◌, ◌-◌, ◌<◌, ◌≤◌, true, false, inl, inr, List, [], ◌∷◌, ◌++◌, length, map, drop, get_or, slice_get, slice_range, Option, Some, None, option_map, refl, sym, ap, subst, ◌∙◌, arith, length-append, rules, MatchOption, ◌≢◌, flat_map, drop-drop, length-drop, cases_lt, common_steps, length-map, get_or_default, get_or_past, slice_get-get_or, get_or_from_slice_get, slice_get_cases, slice_get_read, slice_get-map, same_Some, KeptSegment, Sequence, Sequences, OrderedNode, further_nodes, ordered_nodes, node_at, nodes_at, place_at, parent_at, IsLeaf, game_of, sequence_starts, sequence_start, sequence_end, sequence_numbers, Listed, sequences_of, games_in, outer_by, game_by, is_written_by, nodes_of, HasSegments, IsKept, AreKept, IsOutlined, Spells, Node, Games, node_count, node_text, node_in, IsNodeIn, range_with_len, properties-in}
 use Rattle.sgf_outline.proofs.Lists.{slice_get-left, slice_get-right}
 use Rattle.sgf_outline.proofs.Rises.{Rises, rises-most, rises-count}
 use Rattle.sgf_outline.proofs.OrderedNodes.{length-further_nodes, length-ordered_nodes, parent_in-further, parent_at-within, next-child, game_of-parent}
@@ -13,22 +13,16 @@ spelled-in text n spelled = grind (arith, common_steps, drop-drop, properties-in
 
 -- the node at a place is the one that its place tells
 pub node-told : (text : List ℕ) (g : Games) → Spells g text → (i p : ℕ) → place_at g i ≡ Some p → (node_at g i ≡ Some (node_in text p)) × IsNodeIn (drop p text) × (p < length text)
-node-told text g spelled_by i p h = at (slice_get (ordered_nodes g) i) refl h
-  where
-    at : (o : Option OrderedNode) → slice_get (ordered_nodes g) i ≡ o → option_map (λ (r : OrderedNode). r.node.place) o ≡ Some p
-        → (node_at g i ≡ Some (node_in text p)) × IsNodeIn (drop p text) × (p < length text)
-    at None here place = absurd (cc)
-    at (Some r) here place =
-        let within : i < length (ordered_nodes g) = slice_get_within (ordered_nodes g) i r here in
-        let same : get_or (ordered_nodes g) i r ≡ r = get_or_from_slice_get (ordered_nodes g) i r r here in
-        let spelled : IsNodeSpelled text r.node = subst (λ (q : OrderedNode). IsNodeSpelled text q.node) same (ordered-spelled text g spelled_by i r within) in
-        let at_place : r.node.place ≡ p = cc in
-        let told = spelled-in text r.node spelled in
-        let some : length (drop r.node.place text) ≡ suc (length (drop (r.node.place + 1) text)) = ap length spelled.begins in (
-          ap (option_map (λ (q : OrderedNode). q.node)) here ∙ ap Some told.0 ∙ ap (λ k. Some (node_in text k)) at_place,
-          subst (λ k. IsNodeIn (drop k text)) at_place told.1,
-          omega (arith, length-drop r.node.place text, at_place),
-        )
+node-told text g spelled_by i p h =
+    elim (slice_get_cases (ordered_nodes g) i).1 [
+      | inl there ↦
+          let spelled = subst (λ (q : OrderedNode). IsNodeSpelled text q.node) there.3 (ordered-spelled text g spelled_by i there.0 there.1) in
+          let told = spelled-in text there.0.node spelled in
+          let at_place : there.0.node.place ≡ p = cc in
+          let some : length (drop there.0.node.place text) ≡ suc (length (drop (there.0.node.place + 1) text)) = ap length spelled.begins in
+          (cc, subst (λ k. IsNodeIn (drop k text)) at_place told.1, omega (arith, length-drop there.0.node.place text, at_place))
+      | inr past ↦ absurd (cc)
+    ]
 
 module _ (text : List ℕ) (kept : Sequences) (outlined : IsOutlined text kept) (g : Games) (is : games_in text ≡ g) where
   spelled-by : Spells g text
@@ -110,12 +104,7 @@ module _ (g : Games) where
         ap (parent_at g) (start-listed ∙ e) ∙ ap (option_map (λ (r : OrderedNode). r.parent)) (own-at 0 (omega arith))
 
     further-listed : (number : ℕ) → sequence_start g i < number → number < sequence_end g i → parent_at g number ≡ Some (Some (number - 1))
-    further-listed number from to =
-        let j : ℕ = number - s.number - 1 in
-        let e : number ≡ s.number + suc j = omega (arith, from, start-listed) in
-        let f : s.number + j ≡ number - 1 = omega (arith, from, start-listed) in
-        let lt : j < length s.more = omega (arith, from, to, start-listed, end-listed) in
-        ap (parent_at g) e ∙ ap (option_map (λ (r : OrderedNode). r.parent)) (own-at (suc j) (omega (arith, lt))) ∙ parent_in-further s.number s.more j lt ∙ ap (λ k. Some (Some k)) f
+    further-listed number from to = grind (arith, common_steps, start-listed, end-listed, own-at (number - s.number), parent_in-further s.number s.more (number - s.number - 1))
 
     within-listed : sequence_end g i ≤ node_count g
     within-listed =
@@ -140,7 +129,7 @@ module _ (g : Games) where
     pub one-listed : (s : Listed) × (slice_get (sequences_of g) i ≡ Some s)
     one-listed =
         let none : Listed = record { first = record { place = 0; properties = [] }; more = []; number = 0; outer = None; ordinal = 0 } in
-        (get_or (sequences_of g) i none, slice_get-get_or (sequences_of g) i none (omega (arith, lt, length-map (sequences_of g) number_of, ap length listed-starts)))
+        grind (arith, common_steps, slice_get-get_or (sequences_of g) i none, length-map, listed-starts)
 
     pub sequence-some : sequence_start g i < sequence_end g i
     sequence-some = let s = one-listed in omega (arith, start-listed i s.0 s.1, end-listed i s.0 s.1)
@@ -160,10 +149,7 @@ module _ (g : Games) where
 
     -- with those of a sequence that goes on from it
     pub game-outer : (other : ℕ) → parent_at g (sequence_start g other) ≡ Some (Some (sequence_end g i - 1)) → game_of g (sequence_start g i) ≡ game_of g (sequence_start g other)
-    game-outer other h =
-        let d : ℕ = sequence_end g i - 1 - sequence_start g i in
-        let e : sequence_start g i + d ≡ sequence_end g i - 1 = omega (arith, sequence-some) in
-        sym (same-game d (omega (arith, sequence-some))) ∙ ap (game_of g) e ∙ game_of-parent g (sequence_start g other) (sequence_end g i - 1) h
+    game-outer other h = grind (arith, common_steps, sequence-some, same-game (sequence_end g i - 1 - sequence_start g i), game_of-parent)
 
   rise : Rises 0 (sequence_starts g) (0 + node_count g)
   rise = subst (λ ns. Rises 0 ns (0 + node_count g)) (sym (starts-are g)) (starts-rise 0 g)
@@ -176,11 +162,7 @@ module _ (g : Games) where
 
   -- and so no two end with one node
   same-end : (o i : ℕ) → o < i + 1 → i < length (sequence_starts g) → sequence_end g o - 1 ≡ sequence_end g i - 1 → o ≡ i
-  same-end o i le lt same =
-      elim (cases_lt o i) [
-        | inl less ↦ absurd (omega (arith, same, ends-before o i less lt, sequence-some o (omega (arith, less, lt)), sequence-some i lt))
-        | inr most ↦ omega (arith, le, most)
-      ]
+  same-end o i le lt same = grind (arith, common_steps, cases_lt o i, ends-before o i, sequence-some o, sequence-some i lt)
 
   pub next-start : (i : ℕ) → i + 1 < length (sequence_starts g) → sequence_start g (i + 1) ≡ sequence_end g i
   next-start i lt = get_or_default (sequence_starts g) (i + 1) 0 (node_count g) lt

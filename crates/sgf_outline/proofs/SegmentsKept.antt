@@ -1,5 +1,5 @@
 -- Segments that are kept: with one more, and up to the last one of a sequence.
-use Rattle.sgf_outline.proofs.Common.{◌≡◌, ℕ, ◌+◌, ◌<◌, ◌≤◌, true, false, List, [], ◌∷◌, ◌++◌, length, drop, get_or, slice_range, refl, sym, ap, subst, ◌∙◌, append_assoc, append-nil, rules, cases_lt, false≢true, drop_all, drop_more, KeptSegment, start_by, is_last_by, IsCopiedFirst, AreTold, AreWhole}
+use Rattle.sgf_outline.proofs.Common.{◌≡◌, ℕ, ◌+◌, ◌<◌, ◌≤◌, true, false, List, [], ◌∷◌, ◌++◌, length, drop, get_or, slice_range, refl, sym, ap, ◌∙◌, append_assoc, append-nil, rules, cases_lt, drop_all, drop_more, KeptSegment, start_by, is_last_by, IsCopiedFirst, AreTold, AreWhole}
 
 module _ (t : List ℕ) where
   -- the text of a kept segment
@@ -22,9 +22,8 @@ module _ (t : List ℕ) where
 
     -- the last one
     pub told-whole : (segments : List KeptSegment) (told : List ℕ) → is_last_by new ≡ true → AreTold t segments told → AreWhole t (segments ++ new ∷ []) (told ++ text_by new)
-    told-whole [] told last none = ([], last-copied told none, λ _. refl, λ other. absurd (false≢true (sym other ∙ last)))
-    told-whole (kept ∷ more) told last (rest, is, earlier, are) =
-        (rest ++ text_by new, first-copied kept told rest is, λ yes. absurd (false≢true (sym earlier ∙ yes)), λ _. told-whole more rest last are)
+    told-whole [] told last none = search (rules, last-copied)
+    told-whole (kept ∷ more) told last (rest, is, earlier, are) = search (rules, first-copied, (told-whole more rest last are))
 
   -- others after them
   pub whole-grown : (segments others : List KeptSegment) (written : List ℕ) → AreWhole t segments written → AreWhole t (segments ++ others) written
@@ -37,5 +36,4 @@ module _ (t : List ℕ) where
 
   pub whole-first : (segments : List KeptSegment) (index : ℕ) (written : List ℕ) (kept : KeptSegment) → AreWhole t (drop index segments) written → kept ≡ get_or segments index kept
       → AreWhole t (kept ∷ drop (index + 1) segments) written
-  whole-first segments index written kept whole here =
-      subst (λ left. AreWhole t left written) (drop_more segments index kept (whole-within segments index written whole) ∙ ap (λ first. first ∷ drop (index + 1) segments) (sym here)) whole
+  whole-first segments index written kept whole here = search (rules, drop_more, whole-within)

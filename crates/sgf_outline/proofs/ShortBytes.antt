@@ -39,8 +39,8 @@ module _ (t : List ℕ) (at : ℕ) (room : at + 16 ≤ length t) (fits : (i : �
   abbrev stop : ℕ
   stop = count_trailing_zeros 64 bits
 
-  pub stops-near : bits ≢ 0 → stop < 16
-  stops-near some = let lowest = PlacedBytes.first-in-place least most refl refl t at room (omega (arith, some)) in lowest.short
+  pub stops-inside : bits ≢ 0 → at + 16 < length t → (at + stop < length t) × (at + stop + 1 < length t)
+  stops-inside some more = let lowest = PlacedBytes.first-in-place least most refl refl t at room (omega (arith, some)) in (omega (arith, lowest.short), omega (arith, lowest.short))
 
   pub stops-short : (low : bits % 8 ≡ 0) → bits ≢ 0 → get_or t (at + stop) 0 ≡ 93 → IsShortProperty t at (at + stop)
   stops-short low some bracket =

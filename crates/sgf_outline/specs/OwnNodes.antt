@@ -1,5 +1,5 @@
 -- The own nodes of a game, as a reader comes to know them.
-use Rattle.std.specs.Prelude.{◌≡◌, ℕ, ◌-◌, ◌<◌, ◌≤◌, ◌==◌, Bool, List, [], ◌∷◌, ◌++◌, length, map, get_or, slice_range}
+use Rattle.std.specs.Prelude.{◌≡◌, ℕ, ◌-◌, ◌<◌, ◌≤◌, List, [], ◌∷◌, ◌++◌, length, map, get_or, slice_range}
 use Rattle.sgf_outline.specs.Tree.{Node}
 use Rattle.sgf_outline.specs.Machine.{UnclosedGame, Stack}
 use Rattle.sgf_outline.specs.declared.limit.TheConstants.{MAX_LENGTH}
@@ -66,10 +66,6 @@ CopiesNode kept keeps text place before after part =
     (stack : Stack) (places : List ℕ) (first : ℕ) (written : List ℕ)
     → IsCopied (λ told. kept stack (record { places = places; told = told })) text first before written
     → IsCopied (λ told. keeps stack (record { places = places ++ place ∷ []; told = told })) text first after (written ++ part)
-
--- whether the sgf form writes all the nodes as they stand in the text
-abbrev pub is_written : OwnNodes → Bool
-is_written own = own.segment.start == own.first
 
 -- what is known of the own nodes of a game that were read, perhaps of none
 pub record AreOwnNodes (own : OwnNodes) (nodes : List Node) : Type 0 where

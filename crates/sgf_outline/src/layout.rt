@@ -1,4 +1,10 @@
-//! What is known of the nodes of a game while they are read.
+//! What is known of the nodes of a game while they are read, and which bytes the sgf form copies of them.
+
+ghost use Rattle.std.specs.Prelude.{◌≡◌, ◌≤◌, List, ℕ, length, slice_range, IfOk};
+ghost use Rattle.sgf_outline.specs.OwnNodes.{Copies, MayGoOn};
+
+use crate::visitor::Visitor;
+use sgf_properties::MemoryFault;
 
 /// The own nodes of a game, as they stand in the text. They are the nodes of a sequence.
 #[derive(Clone, Copy)]
@@ -21,4 +27,34 @@ pub struct Segment {
     pub start: usize,
     /// The offset after its last byte.
     pub end: usize,
+}
+
+impl Segment {
+    /// After this segment the bytes from `from` to `to` are copied. They go on with it if they begin where it ends. If not, `visitor` is
+    /// told of it, and they begin the next segment.
+    #[inline(always)]
+    pub fn then<K: Visitor>(
+        self,
+        from: usize,
+        to: usize,
+        visitor: &mut K,
+    ) -> Result<Segment, MemoryFault>
+        requires { MayGoOn self from to }
+        ensures rises { IfOk result (λ next. next.start ≤ next.end) }
+        ensures end { IfOk result (λ next. next.end ≡ to) }
+        ensures copied { IfOk result (λ next. (text : List ℕ) → to ≤ length text
+            → Copies (K.keeps text visitor.old) (K.keeps text visitor.new) text self next (slice_range text from to)) }
+    {
+        if self.end == from {
+            return Ok(Segment {
+                start: self.start,
+                end: to,
+            });
+        }
+        visitor.segment(self)?;
+        Ok(Segment {
+            start: from,
+            end: to,
+        })
+    }
 }

@@ -11,18 +11,16 @@
 //! | Module | What it has |
 //! |---|---|
 //! | `limit` | how long a text may be |
-//! | `layout` | the types of own nodes and segments |
+//! | `layout` | the own nodes of a game; which bytes the sgf form copies of them, segment by segment |
 //! | `visitor` | what a reader tells the one who keeps a part of what it reads |
-//! | `segment` | which bytes the sgf form copies |
 //! | `sequences`, `outline`, `traversal` | keeping the sequences of a collection; looking into them; going over the nodes of one |
-//! | `node` | looking into a node |
-//! | `written` | writing a node as the sgf form does |
+//! | `node` | looking into a node, and writing it as the sgf form does |
 //! | `quick` | shortcuts for what nearly all texts have |
 //!
 //! | Rule (docs/GRAMMAR.md) | Function, and its module |
 //! |---|---|
 //! | at most 64 MiB | `MAX_LENGTH` says how many bytes that is (`limit`); `read` of `sgf_tree` (`reader`) refuses a longer text |
-//! | a node in sgf form | `push_node` (`written`). A run copies segments of the text instead: `push_segments` (`outline`); where a segment ends: `then` (`segment`) |
+//! | a node in sgf form | `NodeRef::push_to` (`node`). A run copies segments of the text instead: `Outline::push_sequence` (`outline`); where a segment ends: `Segment::then` (`layout`) |
 //!
 //! The same tables in `sgf_tree` and in `sgf_properties` have the other rules: which texts are SGF, and how values are decoded.
 //!
@@ -39,11 +37,9 @@ mod limit;
 mod node;
 mod outline;
 mod quick;
-mod segment;
 mod sequences;
 mod traversal;
 mod visitor;
-mod written;
 
 pub use layout::{OwnNodes, Segment};
 pub use limit::MAX_LENGTH;

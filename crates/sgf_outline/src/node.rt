@@ -10,8 +10,7 @@ ghost use Rattle.sgf_outline.specs.inner.NodeText.{IsNodeIn};
 ghost use Rattle.sgf_properties.specs.KeptLengths.{AreKeptLengths};
 
 use crate::quick::lead::is_lone_front;
-use crate::written::push_node;
-use sgf_properties::{LongValue, MemoryFault, PropRef, Properties};
+use sgf_properties::{LongValue, MemoryFault, PropRef, Properties, push_property};
 use std::marker::Model;
 
 /// A node, seen as its place and its properties. Only `push_to` takes memory.
@@ -106,12 +105,14 @@ impl<'c, 'a> NodeRef<'c, 'a> {
         ensures appended { OnOk result (out.new.items ≡ out.old.items ++ node_text self.now) }
         ensures unchanged { OnErr result (out.new.items ≡ out.old.items) }
     {
-        let text = self.text;
         let before = out.len();
-        let pushed = push_node(text, self.long, out);
-        if pushed.is_err() {
-            out.truncate(before);
+        out.push(b';')?;
+        for property in self.iter() {
+            if push_property(&property, out).is_err() {
+                out.truncate(before);
+                return Err(MemoryFault);
+            }
         }
-        pushed
+        Ok(())
     }
 }

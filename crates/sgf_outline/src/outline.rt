@@ -220,20 +220,6 @@ impl<'a> Outline<'a> {
         ensures unchanged { OnErr result (out.new.items ≡ out.old.items) }
     {
         let before = out.len();
-        let pushed = self.push_segments(i, out);
-        if pushed.is_err() {
-            out.truncate(before);
-        }
-        pushed
-    }
-
-    /// The same, but a refusal of memory may leave some of the nodes appended.
-    fn push_segments(&self, i: usize, out: &mut Vec<u8>) -> Result<(), MemoryFault>
-        requires { i < length (sequence_starts self.now) }
-        ensures appended { OnOk result (out.new.items
-            ≡ out.old.items ++ flat_map node_text (nodes_at self.now (sequence_numbers self.now i))) }
-        ensures goes_on { GoesOn out.old.items out.new.items }
-    {
         let sequence = &self.sequences.table[i];
         if sequence.is_written() {
             let written = &self.text[sequence.first as usize..sequence.end as usize];
@@ -244,7 +230,10 @@ impl<'a> Outline<'a> {
         'segments: loop {
             let segment = &self.sequences.segments[at];
             let copied = &self.text[segment.start() as usize..segment.end as usize];
-            out.extend_from_slice(copied)?;
+            if out.extend_from_slice(copied).is_err() {
+                out.truncate(before);
+                return Err(MemoryFault);
+            }
             if segment.is_last() {
                 return Ok(());
             }

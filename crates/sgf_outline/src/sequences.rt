@@ -167,7 +167,8 @@ impl Visitor for Sequences {
             Some(outer) => outer,
             None => self.games + 1 + ROOT,
         };
-        let (end, written) = if own.is_written() {
+        // If the nodes are one segment, the sgf form writes them as they stand in the text.
+        let (end, written) = if own.segment.start == own.first {
             (own.segment.end as u32, WRITTEN)
         } else {
             self.push_segment(own.segment, LAST)?;

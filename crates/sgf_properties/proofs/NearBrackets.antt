@@ -16,9 +16,6 @@ module _ (t : List ℕ) (at : ℕ) (room : at + 16 ≤ length t) where
   found-bits : found ≡ bits
   found-bits = bitmask_splat w8 eqb (chunk at 16 t) 16 93 (length-chunk at 16 t room) (omega arith)
 
-  pub none_found : found ≡ 0 → HasNoBracket t at (at + 16)
-  none_found none i low high = not-bracket (get_or t i 0) (none_from_empty_mask (λ x. eqb x 93) t at 16 0 room (sym found-bits ∙ none) i low high)
-
   pub lowest_found : found ≢ 0 → IsNextBracket t at (at + count_trailing_zeros 64 found)
   lowest_found some =
       let lowest = NearBits.lowest-bit (λ x. eqb x 93) t at room (omega (arith, found-bits, some)) in

@@ -89,20 +89,6 @@ impl<'a> Model for Values<'a> {
     ghost invariant = { λ p. AreValuesIn p.rest.now };
 }
 
-impl<'a> Values<'a> {
-    /// The first raw value of a property, and then the raw values at the front of `more`, which is the text after it.
-    #[inline(always)]
-    pub(crate) fn new(first: &'a [u8], more: &'a [u8]) -> Values<'a>
-        requires { AreValuesIn more.now }
-        ensures { result ≡ first.now ∷ values_in more.now }
-    {
-        Values {
-            first: Some(first),
-            rest: more,
-        }
-    }
-}
-
 impl<'a> Iterator for Values<'a> {
     type Item = &'a [u8];
 

@@ -36,7 +36,7 @@
 //! | the end of a raw value, which is the first `]` that no `\` escapes | `far_value_end` (`value`); shortcuts: `near_value_end`, `is_two_ordinary`, `past_points` (`quick/value`) |
 //! | white space: its bytes | `white_space_end`, `skip_white_space` (`scan`) |
 //! | decoded text; numbers | `decode_front`, which `push_text` calls (`text`); `number` (`numbers`) |
-//! | a property in sgf form | `push_property`, `push_value` (`written`) |
+//! | a property in sgf form | `push_property` (`written`) |
 //!
 //! The plain code is complete without the shortcuts in `quick`, which may be skipped: a first reader may take each call of one to find nothing,
 //! as if it returned None, false, 0, or the offset that it got. A shortcut ensures no more than the plain function that it stands in for.

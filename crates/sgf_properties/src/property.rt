@@ -70,7 +70,10 @@ impl<'a> PropRef<'a> {
     pub fn iter(&self) -> Values<'a>
         ensures { result ≡ values self.now }
     {
-        Values::new(self.first, self.more)
+        Values {
+            first: Some(self.first),
+            rest: self.more,
+        }
     }
 
     /// The number of its values, at least 1. This goes over all of them.
@@ -78,8 +81,7 @@ impl<'a> PropRef<'a> {
     pub fn values(&self) -> usize
         ensures { result ≡ length (values self.now) }
     {
-        let left = Values::new(self.first, self.more);
-        left.count()
+        self.iter().count()
     }
 
     /// Raw value `i`, from 0 in file order: the bytes between its `[` and its `]`. `i` must be less than `values()`. The bytes

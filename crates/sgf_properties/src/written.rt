@@ -3,7 +3,7 @@
 #![tactic(auto, using(crate::proofs::GoingOn::goes_on_on))]
 
 ghost use Rattle.std.specs.Prelude.{◌≡◌, ◌++◌, OnOk, OnErr};
-ghost use Rattle.sgf_properties.specs.Written.{value_text, property_text, GoesOn};
+ghost use Rattle.sgf_properties.specs.Written.{property_text, GoesOn};
 
 use crate::fault::MemoryFault;
 use crate::property::PropRef;
@@ -31,18 +31,9 @@ fn push_parts(property: &PropRef<'_>, out: &mut Vec<u8>) -> Result<(), MemoryFau
 {
     property.push_name(out)?;
     for value in property.iter() {
-        push_value(value, out)?;
+        out.push(b'[')?;
+        out.extend_from_slice(value)?;
+        out.push(b']')?;
     }
-    Ok(())
-}
-
-/// Appends a raw value between brackets. After a refusal of memory some of it may be appended.
-fn push_value(value: &[u8], out: &mut Vec<u8>) -> Result<(), MemoryFault>
-    ensures appended { OnOk result (out.new.items ≡ out.old.items ++ value_text value.now) }
-    ensures goes_on { GoesOn out.old.items out.new.items }
-{
-    out.push(b'[')?;
-    out.extend_from_slice(value)?;
-    out.push(b']')?;
     Ok(())
 }

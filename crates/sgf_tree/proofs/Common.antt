@@ -34,5 +34,5 @@ pub use Rattle.sgf_tree.specs.Refusal.{IsFaultyAt}
 pub use Rattle.sgf_tree.specs.inner.GamesRead.{IsByteOrderMarkRead, IsGameRead, lasts, own_nodes, ReadsWhole, StandsBetween, tip, unclosed_lasts, unclosed_nodes}
 pub use Rattle.sgf_tree.specs.inner.NodesRead.{AreNodesRead, AreOwnRead, AreReadTo, NodesSoFar}
 pub use Rattle.sgf_tree.specs.inner.Placing.{HoldsNodes, ordered_places}
-pub use Rattle.sgf_tree.specs.inner.Progress.{ComesTo, text_fault}
+pub use Rattle.sgf_tree.specs.inner.Progress.{ComesTo}
 pub use Rattle.sgf_tree.specs.inner.PropertiesRead.{ArePropertiesRead, AreValuesEnded, IsNameRead, IsPropertyRead, StandsAfterNode, StandsIn, with_properties}

@@ -47,7 +47,7 @@ module _ (tally : Tally) (depth one_game one_leaf : ℕ) where
   abbrev Counts : Stack → Stack → Type 0
   Counts k next =
       IsTallyOf k tally → length k.unclosed ≡ depth + 1 → one_game ≡ cond (eqb depth 0) 1 0 → one_leaf ≡ cond tally.is_bare 1 0
-      → IsTallyOf next (record { games = tally.games + one_game; nodes = tally.nodes; leaves = tally.leaves + one_leaf; is_bare = false })
+      → IsTallyOf next (record { extent = record { games = tally.extent.games + one_game; nodes = tally.extent.nodes; leaves = tally.extent.leaves + one_leaf }; is_bare = false })
 
   pub tally-closed : (k next : Stack) → close k ≡ Some (after_game next) → Counts k next
   tally-closed = game-ends Counts (λ closed g gs counts is_unclosed is_game is_leaf. grind (arith, common_steps, game_count-closed, unclosed_count-closed, unclosed_leaves-closed, bare-closed))

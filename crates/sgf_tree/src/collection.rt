@@ -1,32 +1,25 @@
 //! A collection that was read: its nodes in file order, numbered from 0.
 
-ghost use Rattle.std.specs.Prelude.{◌≡◌, ◌-◌, ◌<◌, ◌↔◌, ℕ, Some, IsTrue, length, ◌≤◌};
+ghost use Rattle.std.specs.Prelude.{◌≡◌, ◌-◌, ◌<◌, ◌↔◌, ℕ, Some, IsTrue};
 ghost use Rattle.sgf_outline.specs.declared.limit.TheConstants.{MAX_LENGTH};
 ghost use Rattle.sgf_outline.specs.Tree.{game_count, node_count, Games};
 ghost use Rattle.sgf_outline.specs.FileOrder.{node_at, place_at, parent_at, IsLeaf, game_of, IsLastBelow, PlacesRise, ordered_nodes};
 ghost use Rattle.sgf_outline.specs.inner.TreeCode.{games_code};
 ghost use Rattle.sgf_tree.specs.inner.GamesRead.{lasts};
-ghost use Rattle.sgf_outline.specs.Unclosed.{whole};
-ghost use Rattle.sgf_tree.specs.inner.Placing.{ordered_places, HoldsNodes};
-ghost use Rattle.sgf_outline.specs.Spelling.{Spells};
-ghost use Rattle.sgf_outline.specs.Machine.{games_in};
-ghost use Rattle.sgf_outline.specs.OwnNodes.{nothing};
-ghost use Rattle.sgf_properties.specs.KeptLengths.{AreKeptLengths};
+ghost use Rattle.sgf_tree.specs.inner.Placing.{ordered_places};
 
-use crate::numbered::Numbered;
 use sgf_outline::{NodeRef, Outline};
-use sgf_properties::LongValue;
 use std::marker::Model;
 
 /// The collection that a text spells (SGF FF[4], EBNF).
 /// It refers to the text, and doesn't copy names or values.
 #[derive(Drop)]
 pub struct Collection<'a> {
-    outline: Outline<'a>,
+    pub(crate) outline: Outline<'a>,
     /// The places of the nodes.
-    places: Vec<u32>,
+    pub(crate) places: Vec<u32>,
     /// For each sequence the greatest number among its nodes and the nodes below them.
-    last_nodes: Vec<u32>,
+    pub(crate) last_nodes: Vec<u32>,
 }
 
 impl<'a> Model for Collection<'a> {
@@ -40,27 +33,6 @@ impl<'a> Model for Collection<'a> {
 }
 
 impl<'a> Collection<'a> {
-    /// The collection that the text spells. The nodes must be those of this collection.
-    pub(crate) fn new(text: &'a [u8], nodes: Numbered, long: Vec<LongValue>) -> Collection<'a>
-        requires short { length text.now ≤ MAX_LENGTH }
-        requires spelled { Spells (games_in text.now) text.now }
-        requires few { node_count (games_in text.now) ≤ length text.now }
-        requires held { HoldsNodes text.now nodes (whole (games_in text.now)) nothing }
-        requires kept { AreKeptLengths text.now long.items }
-        ensures { result ≡ games_in text.now }
-    {
-        let Numbered {
-            sequences,
-            places,
-            last_nodes,
-        } = nodes;
-        Collection {
-            outline: Outline::new(text, sequences, long),
-            places,
-            last_nodes,
-        }
-    }
-
     /// Its outline, which knows its sequences.
     pub fn outline(&self) -> &Outline<'a>
         ensures { result.now ≡ self.now }

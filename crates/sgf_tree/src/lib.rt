@@ -32,7 +32,6 @@
 //! | `reader/counting` | counting games, nodes and leaves |
 //! | `reader/value` | reading a raw value, and keeping the lengths of long ones |
 //! | `reader/byte_order_mark` | the byte order mark |
-//! | `reader/fault` | why reading a text stopped, and how the place of the first fault is found |
 //! | `extent` | how much a text holds |
 //! | `numbered`, `collection` | keeping the place of each node besides the sequences; looking into a collection by numbers of nodes |
 //! | `quick` | shortcuts for what nearly all texts have |
@@ -43,12 +42,12 @@
 //! |---|---|
 //! | Collection and GameTree; Sequence, and the `;` of a Node | `read_games`; `read_sequence` (`reader/games`) |
 //! | the properties of a Node; Property | `read_properties`; `read_property` (`reader/properties`) |
-//! | PropIdent: its first capital; the `[` after it | `read_properties` (`reader/properties`); `read_far_name` (`reader/properties`) |
-//! | white space: before the first `(`; after a parenthesis; after a `;`; after a name; after a value, so before what comes next | `read_whole` (`reader`); `read_sequence`, `read_games` (`reader/games`); `read_properties`; `read_far_name`; `read_property` (`reader/properties`), in a run after most properties the shortcut `property_end` (`quick/properties`); all by `skip_white_space` of `sgf_properties` (`scan`), but `skip_line_end` passes a lone line feed itself |
+//! | PropIdent: its first capital; the `[` after it | `read_properties`; `read_name` (`reader/properties`) |
+//! | white space: before the first `(`; after a parenthesis; after a `;`; after a name; after a value, so before what comes next | `read_whole` (`reader`); `read_sequence`, `read_games` (`reader/games`); `read_properties`; `read_name`; `read_property` (`reader/properties`), in a run after most properties the shortcut `property_end` (`quick/properties`); all by `skip_white_space` of `sgf_properties` (`scan`), but `property_end` passes a lone line feed itself |
 //! | the byte order mark: its bytes; once, before white space | `byte_order_mark_end` (`reader/byte_order_mark`); `read_whole` (`reader`) |
-//! | the first fault | where these return `NotSgf`: `read_games`, `read_sequence` (`reader/games`), `read_far_name` (`reader/properties`), `read_far_value` (`reader/value`), `byte_order_mark_end` (`reader/byte_order_mark`); `reader/fault` says why that is the first |
+//! | the first fault | where these return `NotSgf`: `read_games`, `read_sequence` (`reader/games`), `read_name` (`reader/properties`), `read_value` (`reader/value`), `byte_order_mark_end` (`reader/byte_order_mark`); `reader` says why that is the first |
 //! | at most 64 MiB | `read`, `read_outline`, `read_extent` (`reader`) |
-//! | a node in sgf form | `push_node` of `sgf_outline` (`written`). A run copies segments of the text instead: `read_node` (`reader/games`) and `read_properties` find them, and `copy_capitals` (`reader/properties`) leaves small letters of names out |
+//! | a node in sgf form | `NodeRef::push_to` of `sgf_outline` (`node`). A run copies segments of the text instead: `read_node` (`reader/games`) and `read_properties` find them, and `copy_capitals` (`reader/properties`) leaves small letters of names out |
 //!
 //! The same table in `sgf_properties` has the rules of names, raw values, decoded text, numbers, and the bytes of white space.
 //!

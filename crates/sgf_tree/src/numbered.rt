@@ -1,7 +1,7 @@
 //! The nodes of a collection by their numbers: besides its sequences, the place of each node in 4 bytes, and for each sequence the last
 //! node below it.
 
-ghost use Rattle.std.specs.Prelude.{◌≡◌, ◌+◌, ◌/◌, min, ℕ, List, IfOk};
+ghost use Rattle.std.specs.Prelude.{◌≡◌, ◌+◌, ◌/◌, min, ℕ, List, IfOk, vec_capacity};
 ghost use Rattle.sgf_outline.specs.OwnNodes.{nothing};
 ghost use Rattle.sgf_outline.specs.Tree.{no_games};
 ghost use Rattle.sgf_outline.specs.Unclosed.{whole};
@@ -31,11 +31,13 @@ pub(crate) struct Numbered {
 impl Numbered {
     /// No nodes, with room for those of a usual game in a text of so many bytes. So those of a short text take little memory.
     pub(crate) fn with_room(alloc: Global, bytes: usize) -> Result<Numbered, MemoryFault>
-        ensures { IfOk result (λ nodes. (text : List ℕ) → HoldsNodes text nodes (whole no_games) nothing) }
+        ensures none { IfOk result (λ nodes. (text : List ℕ) → HoldsNodes text nodes (whole no_games) nothing) }
+        ensures room { IfOk result (λ nodes. vec_capacity nodes.places ≡ min 128 (bytes / 6 + 1)) }
     {
+        let room = ROOM_FOR_NODES.min(bytes / NODE_BYTES + 1);
         Ok(Numbered {
             sequences: Sequences::with_room(alloc, bytes)?,
-            places: Vec::with_capacity(alloc, first_room(bytes))?,
+            places: Vec::with_capacity(alloc, room)?,
             last_nodes: Vec::new(alloc),
         })
     }
@@ -64,11 +66,4 @@ impl Visitor for Numbered {
         }
         self.sequences.game_ends(depth);
     }
-}
-
-/// How many nodes of a text of so many bytes there is room for at first.
-fn first_room(bytes: usize) -> usize
-    ensures { result ≡ min 128 (bytes / 6 + 1) }
-{
-    ROOM_FOR_NODES.min(bytes / NODE_BYTES + 1)
 }

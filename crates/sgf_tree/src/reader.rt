@@ -2,10 +2,16 @@
 //!
 //! The reader goes over the text once, and tells a visitor what comes. `read_outline` keeps the sequences, `read` keeps the place of each
 //! node too, and `read_extent` only counts. The length of each long value is kept in a vector.
-//! A fault is reported at the first byte that no text of the grammar can have there.
+//!
+//! The reader goes from each byte to the next, and never back. It stops at the first byte that can't come next. The bytes before
+//! this byte are the beginning of a valid text, so its offset is the place of the first fault. If the text ends where no valid
+//! text can end, the place is the text's length.
+//!
+//! So the place is known when the reader stops, without a further search. Some parts of the reader skip ahead, such as the
+//! search for the end of a value. If such a part finds nothing, the place is the text's length.
 //!
 //! The plain way goes from `read_whole` to `read_games`, `read_sequence`, `read_node` (`games`), `read_properties`, `read_property`,
-//! `read_far_name` (`properties`) and `read_far_value` (`value`).
+//! `read_name` (`properties`) and `read_value` (`value`).
 
 ghost use Rattle.std.specs.Prelude.{◌≡◌, ◌<◌, ◌≤◌, ◌↔◌, [], length, Err, IfOk, IfErr, OnOk};
 ghost use Rattle.sgf_outline.specs.Tree.{no_games};
@@ -20,7 +26,6 @@ ghost use Rattle.sgf_tree.specs.inner.GamesRead.{ReadsWhole};
 
 mod byte_order_mark;
 mod counting;
-mod fault;
 mod games;
 pub(crate) mod own_nodes;
 pub(crate) mod properties;
@@ -32,7 +37,6 @@ use crate::fault::ReadFault;
 use crate::numbered::Numbered;
 use crate::reader::byte_order_mark::byte_order_mark_end;
 use crate::reader::counting::Tally;
-use crate::reader::fault::PartFault;
 use crate::reader::games::read_games;
 use sgf_outline::{MAX_LENGTH, Outline, Sequences, Visitor};
 use sgf_properties::{LongValue, skip_white_space};
@@ -54,7 +58,16 @@ pub fn read<'a>(alloc: Global, text: &'a [u8]) -> Result<Collection<'a>, ReadFau
     let mut nodes = Numbered::with_room(alloc, text.len())?;
     let mut long = Vec::new(alloc);
     read_whole(text, &mut nodes, &mut long)?;
-    Ok(Collection::new(text, nodes, long))
+    let Numbered {
+        sequences,
+        places,
+        last_nodes,
+    } = nodes;
+    Ok(Collection {
+        outline: Outline::new(text, sequences, long),
+        places,
+        last_nodes,
+    })
 }
 
 /// Reads the outline of the collection that a text spells, which knows its sequences. It takes less memory than a collection. The outline
@@ -83,10 +96,17 @@ pub fn read_extent(alloc: Global, text: &[u8]) -> Result<Extent, ReadFault>
     if text.len() > MAX_LENGTH {
         return Err(ReadFault::TooLong);
     }
-    let mut tally = Tally::new();
+    let mut tally = Tally {
+        extent: Extent {
+            games: 0,
+            nodes: 0,
+            leaves: 0,
+        },
+        is_bare: false,
+    };
     let mut long = Vec::new(alloc);
     read_whole(text, &mut tally, &mut long)?;
-    Ok(tally.extent())
+    Ok(tally.extent)
 }
 
 /// Reads a whole text, and tells `visitor` what comes. A byte order mark may stand once, at the very start, before any white space.
@@ -95,7 +115,7 @@ fn read_whole<K: Visitor>(
     text: &[u8],
     visitor: &mut K,
     long: &mut Vec<LongValue>,
-) -> Result<(), PartFault>
+) -> Result<(), ReadFault>
     requires short { length text.now ≤ MAX_LENGTH }
     requires nothing_read { K.keeps text.now visitor.old (whole no_games) nothing }
     requires nothing_kept { long.old.items ≡ [] }

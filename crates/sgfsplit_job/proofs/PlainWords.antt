@@ -67,12 +67,19 @@ number_plain [] h = absurd (omega (arith, h.0))
 number_plain (d ∷ ds) h = two_is_none ds d (ne_eqb _ _ (λ e. omega (arith, digit_from_value d h.2.0)))
 
 -- for a number word `get_one` returns the number
-pub number_read : (E : Type 0) (G : List ℕ → Result ℕ E → Type 0) (word : Word) (r : Option ℕ) → ReadsOne G word r
+number_read : (E : Type 0) (G : List ℕ → Result ℕ E → Type 0) (word : Word) (r : Option ℕ) → ReadsOne G word r
     → ((u : List ℕ) (x : Result ℕ E) → G u x → ParsesUnsigned 64 10 u x) → IsNumberWord word → r ≡ Some (digits_value 10 word)
 number_read E G word (Some v) read only h =
     let parsed = only word (Ok v) read in
     ap Some (parsed.1 ∙ ap (digits_value 10) (no_plus word h))
 number_read E G word None read only h = search (rules, no_plus, number_small)
+
+-- and None if no word is given
+pub number_given : (E : Type 0) (G : List ℕ → Result ℕ E → Type 0) (found given : Option Word) (r : Option ℕ) → found ≡ given → (found ≡ None → r ≡ None)
+    → ((word : Word) → found ≡ Some word → ReadsOne G word r) → ((u : List ℕ) (x : Result ℕ E) → G u x → ParsesUnsigned 64 10 u x)
+    → IfSome given IsNumberWord → r ≡ option_map (digits_value 10) given
+number_given E G found None r is none read only h = none is
+number_given E G found (Some word) r is none read only h = number_read E G word r (read word is) only h
 
 -- ---- whole command lines
 

@@ -1,12 +1,11 @@
 //! Does a job, or shows clap's text. Both return the exit status, and put the row of a fault on the sink for faults.
 
-ghost use Rattle.std.specs.Prelude.{◌≡◌, ◌<◌, ◌+◌, ℕ, Some, OnOk, is_ok};
+ghost use Rattle.std.specs.Prelude.{◌≡◌, ◌<◌, ◌+◌, OnOk, is_ok};
 ghost use Rattle.std.specs.Result.{result_err};
 ghost use Rattle.clap.specs.Values.{kind_of};
 ghost use Rattle.sgf_lines.specs.Answer.{reads_failed, writes_failed};
 ghost use Rattle.byte_streams.specs.Streams.{HasDelivered};
-ghost use Rattle.sgf_lines.specs.declared.fault.RunFault.TheVariants.{Memory};
-ghost use Rattle.sgfsplit_job.specs.Act.{DoesJob, FlushesAfter, IsAct, Shows, TakesText, Tells};
+ghost use Rattle.sgfsplit_job.specs.Act.{DoesJob, IsAct, Shows, TakesText, Tells};
 
 use crate::fault::Fault;
 use crate::jobs::Job;
@@ -37,7 +36,9 @@ pub fn act<S: Source, T: Sink, E: Sink>(
     match do_job(alloc, job, source, output) {
         Ok(()) => 0,
         Err(fault) => {
-            flush_after(&fault, output);
+            if let RunFault::Memory { .. } = fault {
+                let _ = output.flush();
+            }
             tell(&Fault::Run(fault), faults)
         }
     }
@@ -67,23 +68,6 @@ fn do_job<S: Source, T: Sink>(
             let counts = count(alloc, source)?;
             write_counts(output, &counts)
         }
-    }
-}
-
-/// After refused memory, flushes the output, and ignores a failure of that flush. After another fault, does nothing.
-fn flush_after<T: Sink>(fault: &RunFault, output: &mut T)
-    requires { (lines : ℕ) → fault.now ≡ Memory lines → (T.state output.old).failures < u64.MAX }
-    ensures { FlushesAfter (Some fault.now) (T.state output.old) (T.state output.new) }
-{
-    match fault {
-        RunFault::Memory { .. } => {
-            let _ = output.flush();
-        }
-        RunFault::Read
-        | RunFault::TooLong
-        | RunFault::NotSgf { .. }
-        | RunFault::NoSuchLine { .. }
-        | RunFault::Write { .. } => {}
     }
 }
 

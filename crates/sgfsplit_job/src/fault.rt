@@ -3,6 +3,7 @@
 ghost use Rattle.std.specs.Prelude.{◌≡◌, ◌<◌, ◌≤◌, ◌+◌, ◌++◌, length};
 
 use crate::short_text::ShortText;
+use itoa::Buffer;
 use sgf_lines::{MAX_LENGTH, RunFault};
 
 /// Why the program ends with a status other than 0. (A mistake in the words is clap's error instead, with status 2.)
@@ -52,7 +53,9 @@ impl Fault {
         let mut text = ShortText::new();
         text.push("sgfsplit: ");
         text.push(before);
-        text.push_number(number);
+        if let Some(number) = number {
+            text.push(Buffer::new().format(number));
+        }
         text.push(after);
         text.push("\n");
         text

@@ -29,13 +29,8 @@ impl Job {
     pub fn file(&self) -> Option<&str>
         ensures { option_map (λ name. name.now) result ≡ option_map string_bytes (job_file self.now) }
     {
-        let file = match self {
-            Job::Split { file, .. } => file,
-            Job::Count { file } => file,
-        };
-        match file {
-            Some(name) => Some(name.as_str()),
-            None => None,
+        match self {
+            Job::Split { file, .. } | Job::Count { file } => file.as_deref(),
         }
     }
 }

@@ -2,8 +2,6 @@
 
 ghost use Rattle.std.specs.Prelude.{◌≡◌, ◌≤◌, ◌+◌, ◌++◌, [], length};
 
-use itoa::Buffer;
-
 /// The greatest length of a short text, in bytes.
 const ROOM: usize = 120;
 
@@ -16,7 +14,7 @@ pub(crate) struct ShortText {
 }
 
 impl ShortText {
-    ghost use Rattle.sgfsplit_job.specs.inner.ShortText.{short_text, number_text};
+    ghost use Rattle.sgfsplit_job.specs.inner.ShortText.{short_text};
 
     /// The empty text.
     pub(crate) fn new() -> ShortText
@@ -36,18 +34,6 @@ impl ShortText {
         let end = self.length + text.len();
         self.bytes[self.length..end].copy_from_slice(text.as_bytes());
         self.length = end;
-    }
-
-    /// Appends a number in decimal digits, if there is one.
-    pub(crate) fn push_number(&mut self, number: Option<u64>)
-        requires room { length (short_text self.old) + 40 ≤ 120 }
-        ensures text { short_text self.new ≡ short_text self.old ++ number_text number }
-        ensures short { length (short_text self.new) ≤ length (short_text self.old) + 40 }
-    {
-        if let Some(number) = number {
-            let mut buffer = Buffer::new();
-            self.push(buffer.format(number));
-        }
     }
 
     /// The bytes of the text.

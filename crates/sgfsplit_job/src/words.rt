@@ -1,14 +1,13 @@
 //! The words of a command line, and the job that they ask for.
 
-ghost use Rattle.std.specs.Prelude.{◌≡◌, true, List, Some, None, Option, option_map, map, IfErr, IfOk, IfSome, OnOk, MatchResult, codes, string_bytes};
-ghost use Rattle.std.specs.Str.Parse.{digits_value};
+ghost use Rattle.std.specs.Prelude.{◌≡◌, true, List, Some, Option, option_map, map, IfErr, IfOk, IfSome, OnOk, MatchResult, codes, string_bytes};
 ghost use Rattle.clap.specs.Matches.{has_subcommand};
 ghost use Rattle.clap.specs.Simple.{subcommand_rows_of};
-ghost use Rattle.clap.specs.Walk.{Row, first_of, one_of};
+ghost use Rattle.clap.specs.Walk.{Row, first_of};
 ghost use Rattle.sgf_lines.specs.declared.options.Form.{Form};
 ghost use Rattle.sgf_lines.specs.Form.{form_word};
 ghost use Rattle.sgfsplit_job.specs.CommandLine.{AreFaultless, IsTrueOf};
-ghost use Rattle.sgfsplit_job.specs.PlainWords.{Word, SplitWords, ArePlainWords, IsNumberWord, IsFileWord, SplitsBy, CountsFile, file_of as file_of_rule, options_of, split_words, count_words};
+ghost use Rattle.sgfsplit_job.specs.PlainWords.{Word, SplitWords, ArePlainWords, IsFileWord, SplitsBy, CountsFile, file_of as file_of_rule, options_of, split_words, count_words};
 ghost use Rattle.sgfsplit_job.specs.inner.Found.{rows_found, HoldSplitWords};
 
 use crate::command::command;
@@ -54,19 +53,12 @@ fn found_job(alloc: Global, found: &ArgMatches) -> Result<Job, AllocError>
     if name == "count" {
         return Ok(Job::Count { file });
     }
-    let options = options_given(found);
-    Ok(Job::Split { options, file })
-}
-
-/// The options that the words after `split` give.
-fn options_given(found: &ArgMatches) -> Options
-    ensures { (words : SplitWords) → ArePlainWords words → HoldSplitWords words (rows_found found.now) → result ≡ options_of words }
-{
-    Options {
+    let options = Options {
         form: form_given(found),
-        after: number_given(found, "after"),
-        limit: number_given(found, "limit"),
-    }
+        after: found.get_one::<u64>("after"),
+        limit: found.get_one::<u64>("limit"),
+    };
+    Ok(Job::Split { options, file })
 }
 
 /// The form that `--form` names.
@@ -77,15 +69,6 @@ fn form_given(found: &ArgMatches) -> Form
         Some(word) => Form::named(word).unwrap_or(Form::List),
         None => Form::List,
     }
-}
-
-/// The number that an option gives; None if the option isn't given.
-fn number_given(found: &ArgMatches, name: &str) -> Option<u64>
-    ensures none { one_of name.now (rows_found found.now) ≡ None → result ≡ None }
-    ensures some { (word : Word) → IsNumberWord word → one_of name.now (rows_found found.now) ≡ Some word
-        → result ≡ Some (digits_value 10 word) }
-{
-    found.get_one::<u64>(name)
 }
 
 /// The file that the words name; None, which is standard input, if they name none, and for the word `-`.

@@ -3,142 +3,171 @@
 use crate::streams::{Reads, Writes};
 use sgf_lines::{BufferedSink, Form, Options, ReadSource, WriteSink};
 use sgfsplit_job::{Job, act};
-use std::alloc::{AllocError, Global};
-use std::test::Fail;
+use std::alloc::Global;
+use std::process::Abort;
 
 /// One game of two lines, whose rows have 43 bytes.
 const TWO: &[u8] = b"(;SZ[3](;B[aa])(;B[bb];W[aa]))";
 
-/// The job of splitting standard input in this form, all its lines of play.
-fn split(form: Form) -> Job {
-    Job::Split {
-        options: Options {
-            form,
-            after: None,
-            limit: None,
+/// What a job reads from and writes to.
+#[derive(Drop)]
+struct Ends<'a> {
+    input: Reads<'a>,
+    output: Writes,
+    faults: Writes,
+}
+
+/// A reader of a text and two writers, none of which fails.
+fn ends_of(text: &[u8]) -> Ends<'_> {
+    Ends {
+        input: Reads {
+            left: text,
+            calls: 0,
+            fails_at: 0,
         },
-        file: None,
+        output: Writes::new(),
+        faults: Writes::new(),
     }
 }
 
+/// Splits the input in this form, or counts it if that is None, as the program does, and returns the status.
+fn status(rt: &impl Abort, alloc: Global, form: Option<Form>, ends: &mut Ends<'_>) -> usize {
+    let job = match form {
+        Some(form) => Job::Split {
+            options: Options::all(form),
+            file: None,
+        },
+        None => Job::Count { file: None },
+    };
+    let Ends {
+        input,
+        output,
+        faults,
+    } = ends;
+    done(rt, alloc, &job, input, output, faults)
+}
+
 /// Does a job as the program does, and returns the status.
-fn status(
+fn done(
+    rt: &impl Abort,
     alloc: Global,
     job: &Job,
     input: &mut Reads<'_>,
     output: &mut Writes,
     faults: &mut Writes,
-) -> Result<u8, AllocError> {
+) -> usize {
     let mut source = ReadSource::new(input);
-    let mut output = BufferedSink::new(alloc, output)?;
+    let mut output = BufferedSink::new(alloc, output).expect(rt, "room for a sink");
     let mut faults = WriteSink::new(faults);
-    Ok(act(alloc, job, &mut source, &mut output, &mut faults))
+    usize::from(act(alloc, job, &mut source, &mut output, &mut faults))
 }
 
-/// A reader of a text whose call number `fails_at` fails.
-fn reads(text: &[u8], fails_at: u32) -> Reads<'_> {
-    Reads {
-        left: text,
-        calls: 0,
-        fails_at,
-    }
+/// These numbers must be the wanted ones.
+fn are(rt: &impl Abort, given: [usize; 3], wanted: [usize; 3]) {
+    assert_eq!(rt; given, wanted);
 }
 
 #[test]
-fn writes_once(rt: HostRuntime) -> Result<(), Fail> {
-    for (job, bytes) in [(split(Form::List), 43), (Job::Count { file: None }, 6)] {
-        let (mut input, mut output, mut faults) = (reads(TWO, 0), Writes::new(), Writes::new());
-        let status = status(rt.alloc(), &job, &mut input, &mut output, &mut faults)?;
-        assert_eq!(rt; status, 0);
-        assert_eq!(rt; (output.calls, output.flushes, output.bytes), (1, 1, bytes));
-        assert_eq!(rt; (input.calls, faults.calls), (2, 0));
-    }
-    Ok(())
-}
-
-#[test]
-fn reads_no_more_after_a_failure(rt: HostRuntime) -> Result<(), Fail> {
-    for fails_at in [1, 2] {
-        let (mut input, mut output, mut faults) = (
-            reads(TWO, fails_at),
-            Writes::new(),
-            Writes::new(),
+fn writes_once(rt: HostRuntime) {
+    for &(form, bytes) in &[(Some(Form::List), 43), (None, 6)] {
+        let mut ends = ends_of(TWO);
+        let status = status(&rt, rt.alloc(), form, &mut ends);
+        are(
+            &rt,
+            [status, ends.input.calls, ends.faults.calls],
+            [0, 2, 0],
         );
-        let job = split(Form::List);
-        let status = status(rt.alloc(), &job, &mut input, &mut output, &mut faults)?;
-        assert_eq!(rt; (status, input.calls), (3, fails_at));
-        assert_eq!(rt; (output.calls, output.flushes), (0, 0));
-        assert_eq!(rt; (faults.calls, faults.flushes, faults.bytes), (1, 1, 22));
+        are(&rt, ends.output.counts(), [1, 1, bytes]);
     }
-    Ok(())
 }
 
 #[test]
-fn writes_no_more_after_a_failure(rt: HostRuntime) -> Result<(), Fail> {
+fn reads_no_more_after_a_failure(rt: HostRuntime) {
+    for fails_at in 1..3 {
+        let mut ends = ends_of(TWO);
+        ends.input.fails_at = fails_at;
+        let status = status(&rt, rt.alloc(), Some(Form::List), &mut ends);
+        are(
+            &rt,
+            [status, ends.input.calls, ends.output.bytes],
+            [3, fails_at, 0],
+        );
+        are(&rt, ends.output.counts(), [0, 0, 0]);
+        are(&rt, ends.faults.counts(), [1, 1, 22]);
+    }
+}
+
+#[test]
+fn writes_no_more_after_a_failure(rt: HostRuntime) {
     for fails_at in 1..5 {
-        let (mut input, mut output, mut faults) = (reads(TWO, 0), Writes::new(), Writes::new());
-        output.most = 11;
-        output.fails_at = fails_at;
-        let job = split(Form::List);
-        let status = status(rt.alloc(), &job, &mut input, &mut output, &mut faults)?;
-        assert_eq!(rt; (status, output.calls, output.flushes), (3, fails_at, 0));
-        assert_eq!(rt; (faults.calls, faults.flushes, faults.bytes), (1, 1, 23));
+        let mut ends = ends_of(TWO);
+        ends.output.most = 11;
+        ends.output.fails_at = fails_at;
+        let status = status(&rt, rt.alloc(), Some(Form::List), &mut ends);
+        are(
+            &rt,
+            [status, ends.output.calls, ends.output.flushes],
+            [3, fails_at, 0],
+        );
+        are(&rt, ends.faults.counts(), [1, 1, 23]);
     }
-    Ok(())
 }
 
 #[test]
-fn a_flush_fails_once(rt: HostRuntime) -> Result<(), Fail> {
-    let (mut input, mut output, mut faults) = (reads(TWO, 0), Writes::new(), Writes::new());
-    output.can_flush = false;
-    let job = split(Form::Sgf);
-    let status = status(rt.alloc(), &job, &mut input, &mut output, &mut faults)?;
-    assert_eq!(rt; (status, output.calls, output.flushes), (3, 1, 1));
-    Ok(())
+fn a_flush_fails_once(rt: HostRuntime) {
+    let mut ends = ends_of(TWO);
+    ends.output.can_flush = false;
+    let status = status(&rt, rt.alloc(), Some(Form::Sgf), &mut ends);
+    are(
+        &rt,
+        [status, ends.output.calls, ends.output.flushes],
+        [3, 1, 1],
+    );
 }
 
 #[test]
-fn the_status_stays_where_its_row_fails(rt: HostRuntime) -> Result<(), Fail> {
-    let (mut input, mut output, mut faults) = (reads(b"(;", 0), Writes::new(), Writes::new());
-    faults.fails_at = 2;
-    faults.most = 5;
-    let job = split(Form::List);
-    let status = status(rt.alloc(), &job, &mut input, &mut output, &mut faults)?;
-    assert_eq!(rt; (status, output.calls, output.flushes), (1, 0, 0));
-    assert_eq!(rt; (faults.calls, faults.flushes, faults.bytes), (2, 0, 5));
-    Ok(())
+fn the_status_stays_where_its_row_fails(rt: HostRuntime) {
+    let mut ends = ends_of(b"(;");
+    ends.faults.fails_at = 2;
+    ends.faults.most = 5;
+    let status = status(&rt, rt.alloc(), Some(Form::List), &mut ends);
+    are(
+        &rt,
+        [status, ends.output.calls, ends.output.flushes],
+        [1, 0, 0],
+    );
+    are(&rt, ends.faults.counts(), [2, 0, 5]);
 }
 
 /// A text whose first record in sgf form has 100,003 bytes, more than the sink holds; the second record has 4.
-fn long_and_short(alloc: Global) -> Result<Vec<u8>, Fail> {
-    let mut text = Vec::new(alloc);
-    text.extend_from_slice(b"(;C[")?;
-    text.resize(100_000, b'x')?;
-    text.extend_from_slice(b"])(;)")?;
-    Ok(text)
+fn long_and_short() -> [u8; 100_005] {
+    let mut text = [b'x'; 100_005];
+    text[..4].copy_from_slice(b"(;C[");
+    text[100_000..].copy_from_slice(b"])(;)");
+    text
 }
 
 #[test]
-fn a_long_record_goes_out_whole(rt: HostRuntime) -> Result<(), Fail> {
-    let text = long_and_short(rt.alloc())?;
-    let (mut input, mut output, mut faults) = (reads(&text, 0), Writes::new(), Writes::new());
-    let job = split(Form::Sgf);
-    let status = status(rt.alloc(), &job, &mut input, &mut output, &mut faults)?;
-    assert_eq!(rt; (status, output.calls, output.bytes), (0, 2, 100_007));
-    Ok(())
+fn a_long_record_goes_out_whole(rt: HostRuntime) {
+    let text = long_and_short();
+    let mut ends = ends_of(&text);
+    let status = status(&rt, rt.alloc(), Some(Form::Sgf), &mut ends);
+    are(
+        &rt,
+        [status, ends.output.calls, ends.output.bytes],
+        [0, 2, 100_007],
+    );
 }
 
 #[test]
-fn no_write_follows_one_of_a_long_record_that_failed(rt: HostRuntime) -> Result<(), Fail> {
-    let text = long_and_short(rt.alloc())?;
-    for (fails_at, bytes) in [(1, 0), (2, 20_000), (3, 40_000)] {
-        let (mut input, mut output, mut faults) = (reads(&text, 0), Writes::new(), Writes::new());
-        output.most = 20_000;
-        output.fails_at = fails_at;
-        let job = split(Form::Sgf);
-        let status = status(rt.alloc(), &job, &mut input, &mut output, &mut faults)?;
-        assert_eq!(rt; (status, output.calls, output.flushes), (3, fails_at, 0));
-        assert_eq!(rt; (output.bytes, faults.calls), (bytes, 1));
+fn no_write_follows_one_of_a_long_record_that_failed(rt: HostRuntime) {
+    let text = long_and_short();
+    for &(fails_at, bytes) in &[(1, 0), (2, 20_000), (3, 40_000)] {
+        let mut ends = ends_of(&text);
+        ends.output.most = 20_000;
+        ends.output.fails_at = fails_at;
+        let status = status(&rt, rt.alloc(), Some(Form::Sgf), &mut ends);
+        are(&rt, ends.output.counts(), [fails_at, 0, bytes]);
+        are(&rt, [status, ends.faults.calls, 0], [3, 1, 0]);
     }
-    Ok(())
 }

@@ -7,8 +7,8 @@ use std::io::{ErrorKind, Read, Write};
 #[derive(Drop)]
 pub(crate) struct Reads<'a> {
     pub(crate) left: &'a [u8],
-    pub(crate) calls: u32,
-    pub(crate) fails_at: u32,
+    pub(crate) calls: usize,
+    pub(crate) fails_at: usize,
 }
 
 impl Read for Reads<'_> {
@@ -29,11 +29,11 @@ impl Read for Reads<'_> {
 /// write. Unless `can_flush`, each flush fails.
 #[derive(Drop)]
 pub(crate) struct Writes {
-    pub(crate) calls: u32,
-    pub(crate) flushes: u32,
+    pub(crate) calls: usize,
+    pub(crate) flushes: usize,
     pub(crate) bytes: usize,
     pub(crate) most: usize,
-    pub(crate) fails_at: u32,
+    pub(crate) fails_at: usize,
     pub(crate) can_flush: bool,
 }
 
@@ -48,6 +48,11 @@ impl Writes {
             fails_at: 0,
             can_flush: true,
         }
+    }
+
+    /// How many writes, flushes and bytes there were.
+    pub(crate) fn counts(&self) -> [usize; 3] {
+        [self.calls, self.flushes, self.bytes]
     }
 }
 

@@ -3,19 +3,34 @@
 use sgf_lines::{Form, Options};
 use sgfsplit_job::{Job, job};
 use std::alloc::Global;
-use std::test::Fail;
+use std::process::Abort;
 
 /// The words as strings.
-fn strings(alloc: Global, words: &[&str]) -> Result<Vec<String>, Fail> {
+fn strings(rt: &impl Abort, alloc: Global, words: &[&str]) -> Vec<String> {
     let mut strings = Vec::new(alloc);
     for word in words {
-        strings.push(String::from_str(alloc, word)?)?;
+        let string = String::from_str(alloc, word).expect(rt, "room for a word");
+        assert!(rt; strings.push(string).is_ok());
     }
-    Ok(strings)
+    strings
+}
+
+/// Whether the words ask to split the file ` a.sgf ` with these options.
+fn ask_so(rt: &impl Abort, alloc: Global, words: &[&str], want: Options) -> bool {
+    let words = strings(rt, alloc, words);
+    match job(alloc, words.as_slice()) {
+        Ok(
+            Job::Split {
+                options,
+                file: Some(name),
+            },
+        ) => options == want && name.as_str() == " a.sgf ",
+        _ => false,
+    }
 }
 
 #[test]
-fn options_in_any_order(rt: HostRuntime) -> Result<(), Fail> {
+fn options_in_any_order(rt: HostRuntime) {
     const WORDS: [[&str; 7]; 3] = [
         [
             "sgfsplit", "split", "--after", "+95", "--form", "gtp", " a.sgf ",
@@ -34,23 +49,12 @@ fn options_in_any_order(rt: HostRuntime) -> Result<(), Fail> {
         ],
     ];
     for (number, words) in WORDS.iter().enumerate() {
-        let words = strings(rt.alloc(), words)?;
-        let Ok(Job::Split { options, file }) = job(rt.alloc(), words.as_slice()) else {
-            assert!(rt; false, "no job to split");
-            return Ok(());
-        };
-        let limit = if number == 2 { Some(7) } else { None };
         let want = Options {
             form: Form::Gtp,
             after: Some(95),
-            limit,
+            limit: if number == 2 { Some(7) } else { None },
         };
-        assert!(rt; options == want, "the options");
-        let name = match &file {
-            Some(name) => name.as_str(),
-            None => "",
-        };
-        assert_eq!(rt; name, " a.sgf ");
+        let is_so = ask_so(&rt, rt.alloc(), words, want);
+        assert!(rt; is_so, "the words of row {number}");
     }
-    Ok(())
 }

@@ -1,5 +1,5 @@
 -- How many lines end before a node, which line ends at it, and what a cursor that stands after it shows.
-use Rattle.tree_lines.proofs.Common.{◌≡◌, ℕ, ◌+◌, ◌-◌, ◌<◌, ◌≤◌, List, [], length, slice_get, Option, Some, None, option_map, sym, ap, ◌∙◌, inl, inr, arith, zero, suc, get_or, nat_lt, lt-ltb, le-ltb, cases_lt, common_steps, slice_get-map, slice_get_within, get_or_from_slice_get, slice_get_past, IsLeaf, place_at, game_of, Games, node_count, CursorState, advanced, IsLine, lines_before, path_before, line_before, Line, lines, place_of, Path, paths, leaf_of, IsPathTo, HasNoLeaf, IsNextLeaf, IsAfterLeaf, rises-pair}
+use Rattle.tree_lines.proofs.Common.{◌≡◌, ℕ, ◌+◌, ◌-◌, ◌<◌, ◌≤◌, List, [], length, slice_get, Option, Some, None, option_map, sym, ap, ◌∙◌, arith, zero, suc, get_or, nat_lt, lt-ltb, le-ltb, cases_lt, common_steps, slice_get-map, slice_get_within, get_or_from_slice_get, slice_get_past, IsLeaf, place_at, game_of, Games, node_count, CursorState, advanced, IsLine, lines_before, path_before, line_before, Line, lines, place_of, Path, paths, leaf_of, IsPathTo, HasNoLeaf, IsNextLeaf, IsAfterLeaf, rises-pair}
 use Rattle.std.proofs.lemmas.List.Sums.{prefix_len_is}
 use Rattle.tree_lines.proofs.Lists.{element, each_get}
 use Rattle.tree_lines.proofs.Visits.{one_way, way_within, last-way, some_node, leads, leaves_in_order, covered}
@@ -50,9 +50,7 @@ module _ (c : Games) where
 
   -- no line is left where no leaf is
   pub no_line_left : (n : ℕ) → ((j : ℕ) → n ≤ j → j < node_count c → IsLeaf c j → ⊥) → lines_before c n ≡ length (paths c)
-  no_line_left n none = before_is n (length (paths c)) (omega arith)
-      (λ j p e lt. elim (cases_lt (leaf_of p) n) [ inl before ↦ before | inr ge ↦ absurd (none (leaf_of p) ge (way_within (leads c j p e).up) (leads c j p e).is_leaf) ])
-      (λ p e. absurd (omega (arith, slice_get_within (paths c) (length (paths c)) p e)))
+  no_line_left n none = before_is n (length (paths c)) (omega arith) (λ j p e lt. grind (arith, common_steps, cases_lt (leaf_of p) n, leads c j p e, way_within)) (λ p e. absurd (omega (arith, slice_get_within (paths c) (length (paths c)) p e)))
 
   -- the line that ends at a leaf, by the way to it
   pub given_line : (i : ℕ) (numbers : List ℕ) → i < node_count c → IsLeaf c i → IsPathTo c (Some i) numbers

@@ -59,7 +59,7 @@ module _ (c : Games) (next : ℕ) (path : List ℕ) (stands : IsAfterLeaf c next
             ]
 
     pub kept_within : r ≤ length path
-    kept_within = let g = next_way.2 in let found = g.front.parent_is in let same : g.front.parent ≡ parent = cc in omega (arith, same_cut g.front.above g.front.rest (rw same at g.front.up) g.front.old_is, ap length g.front.old_is, length-append g.front.above g.front.rest)
+    kept_within = let g = next_way.2 in grind (arith, common_steps, same_cut g.front.above g.front.rest, length-append)
 
     -- the path that is made leads to the leaf
     pub way_made : IsPathTo c (Some leaf) (take r path ++ range_with_len next (leaf + 1 - next))

@@ -41,7 +41,7 @@ next_part ends xs count k part h e =
 
 -- nothing comes after all of them
 pub none_after : {A : Type 0} (ends : List ℕ) (xs : List A) (count k : ℕ) → RiseTo 0 ends count → length xs ≡ count → k ≡ length ends → drop (nodes_in ends k) xs ≡ []
-none_after ends xs count k h many last = let all = ap (nodes_in ends) last ∙ rises_all 0 ends count h in drop_all (nodes_in ends k) xs (omega (arith, all, many))
+none_after ends xs count k h many last = grind (arith, common_steps, rises_all, drop_all)
 
 -- The first parts depend on their ends and on their elements.
 pub alike : {A : Type 0} (start : ℕ) (ends others : List ℕ) (xs ys : List A) (count k : ℕ) → RiseTo start ends count → k ≤ length ends → take k ends ≡ take k others

@@ -1,5 +1,5 @@
 -- The nodes of the line before a cursor, by its path.
-use Rattle.tree_lines.proofs.Common.{◌≡◌, ℕ, zero, suc, ◌-◌, ◌<◌, List, [], ◌∷◌, length, map, drop, get_or, slice_get, Option, Some, refl, sym, ap, ◌∙◌, inl, inr, arith, option_to_list, flat_map, drop-map, cases_lt, common_steps, length-map, slice_get_past, node_at, nodes_at, Node, Games, CursorState, nodes_of, line_in, line_before, nodes_before, path_before, numbers_before, lines_before, lines, paths, IsAfterLeaf, slice_get-map, slice_get-get_or}
+use Rattle.tree_lines.proofs.Common.{◌≡◌, ℕ, zero, suc, ◌-◌, ◌<◌, List, [], ◌∷◌, length, map, drop, get_or, slice_get, Option, Some, refl, sym, ap, ◌∙◌, arith, option_to_list, flat_map, drop-map, cases_lt, common_steps, length-map, slice_get_past, node_at, nodes_at, Node, Games, CursorState, nodes_of, line_in, line_before, nodes_before, path_before, numbers_before, lines_before, lines, paths, IsAfterLeaf, slice_get-map, slice_get-get_or}
 use Rattle.tree_lines.proofs.Lists.{element}
 use Rattle.tree_lines.proofs.Named.{line_at, length-paths}
 use Rattle.tree_lines.proofs.CursorStates.{before}
@@ -25,13 +25,7 @@ named_nodes f (n ∷ ns) (k ∷ ks) e = grind (arith, common_steps, named_nodes 
 -- they are those that the path names
 pub named_in : (c : Games) (k : ℕ) → map Some (nodes_of (line_in c k)) ≡ map (node_at c) (numbers_before c k)
 named_in c zero = refl
-named_in c (suc k) =
-    elim (cases_lt k (length (paths c))) [
-      | inl lt ↦
-          grind (arith, common_steps, element (paths c) k lt, line_at)
-      | inr ge ↦
-          grind (arith, common_steps, slice_get_past, length-paths)
-    ]
+named_in c (suc k) = grind (arith, common_steps, cases_lt k (length (paths c)), element (paths c) k, line_at, slice_get_past, length-paths)
 
 -- as many as the path names
 pub as_long : (at : CursorState) → length (nodes_before at) ≡ length (path_before at)

@@ -1,5 +1,5 @@
 -- The loops that climb from a sequence to the root of its game.
-use Rattle.tree_lines.proofs.Common.{◌≡◌, ℕ, ◌+◌, ◌-◌, ◌<◌, ◌≤◌, List, [], ◌∷◌, ◌++◌, length, set, drop, Option, Some, None, refl, ap, ◌∙◌, arith, append-nil, append_assoc, length-append, length-set, rules, drop-length, common_steps, drop-set_at, sequence_starts, sequence_numbers, Games, node_count, Front, Part, first_of, sequence_length, parts_of, part_numbers, IsAbove, ArePartsTo, IsWayTo, MeasuresTo}
+use Rattle.tree_lines.proofs.Common.{◌≡◌, ℕ, ◌+◌, ◌-◌, ◌<◌, ◌≤◌, List, [], ◌∷◌, ◌++◌, length, set, drop, Option, Some, None, refl, ap, arith, append-nil, append_assoc, length-append, length-set, rules, drop-length, common_steps, drop-set_at, sequence_starts, Games, node_count, Front, Part, first_of, sequence_length, parts_of, part_numbers, IsAbove, ArePartsTo, IsWayTo, MeasuresTo}
 use Rattle.tree_lines.specs.inner.Parts.{top, step}
 use Rattle.tree_lines.proofs.SequenceStarts.{first_no_less, length_is, first_within}
 use Rattle.tree_lines.proofs.SequenceParts.{numbers_more, sequence_long}
@@ -31,7 +31,7 @@ module _ (c : Games) where
 
   -- the nodes of parts and one sequence more
   nodes_more : (front : List Part) (k : ℕ) → length (part_numbers c (front ++ part_after c front k ∷ [])) ≡ length (part_numbers c front) + sequence_length c k
-  nodes_more front k = ap length (numbers_more c front (part_after c front k)) ∙ length-append (part_numbers c front) (sequence_numbers c k) ∙ ap (λ n. length (part_numbers c front) + n) (sequence_long c k)
+  nodes_more front k = search (rules, numbers_more, length-append, sequence_long)
 
   -- the sequences and nodes of the way that the loop has passed are counted
   pub record IsMeasured (last : ℕ) (current : Option ℕ) (sequences nodes : ℕ) : Type 0 where

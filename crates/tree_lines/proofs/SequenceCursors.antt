@@ -1,5 +1,5 @@
 -- What a cursor by sequences shows of the line before it, and where it stands after the next leaf.
-use Rattle.tree_lines.proofs.Common.{◌≡◌, ◌≢◌, ℕ, suc, ◌+◌, ◌-◌, ◌<◌, ◌≤◌, inl, inr, List, [], ◌∷◌, ◌++◌, length, get_or, take, slice_get, Option, Some, None, option_map, refl, sym, ap, ◌∙◌, arith, add-one, length-append, rules, length-take-le, range_with_len, take-append_seam, cases_lt, common_steps, length-map, take-map, get_or-range_with_len, length-range_with_len, slice_get-get_or, parent_at, place_at, node_at, nodes_at, game_of, IsLeaf, sequence_starts, sequence_start, sequence_end, sequence_numbers, Node, Games, node_count, Front, CursorState, advanced, IsAfterPlace, lines_before, Continues, path_before, nodes_before, line_before, line_in, nodes_of, lines, place_of, Line, HasNoLineAt, SequencesState, SharesFront, RiseTo, sequences_of, parts_from, Part, first_of, parts_of, part_numbers, part_ends, AreParts, IsAfterSequences, IsCursorKept, IsWayTo, IsNextEnd, IsFrontUpTo, GoesDown, IsAbove, ArePartsTo, HasNoLeaf, IsNextLeaf, IsCutBack, IsAfterLeaf}
+use Rattle.tree_lines.proofs.Common.{cases_eq, PlacesRise, IsFirstFrom, ◌≡◌, ◌≢◌, ℕ, suc, ◌+◌, ◌-◌, ◌<◌, ◌≤◌, inl, inr, List, [], ◌∷◌, ◌++◌, length, get_or, take, slice_get, Option, Some, None, option_map, refl, sym, ap, ◌∙◌, arith, add-one, length-append, rules, length-take-le, range_with_len, take-append_seam, common_steps, length-map, take-map, get_or-range_with_len, length-range_with_len, slice_get-get_or, parent_at, place_at, node_at, nodes_at, game_of, IsLeaf, sequence_starts, sequence_start, sequence_end, sequence_numbers, Node, Games, node_count, Front, CursorState, advanced, IsAfterPlace, lines_before, Continues, path_before, nodes_before, line_before, line_in, nodes_of, lines, place_of, Line, HasNoLineAt, SequencesState, SharesFront, RiseTo, sequences_of, parts_from, Part, first_of, parts_of, part_numbers, part_ends, AreParts, IsAfterSequences, IsCursorKept, IsWayTo, IsNextEnd, IsFrontUpTo, GoesDown, IsAbove, ArePartsTo, HasNoLeaf, IsNextLeaf, IsCutBack, IsAfterLeaf}
 use Rattle.std.proofs.Math.ListN.{get_or-append}
 use Rattle.tree_lines.proofs.Fronts.{rises_over}
 use Rattle.tree_lines.proofs.Named.{line_at}
@@ -9,6 +9,7 @@ use Rattle.tree_lines.proofs.Seeking.{stands_after, sought, no_line}
 use Rattle.tree_lines.proofs.Descending.{path_is, short, kept_within, stands_next, continues_made, shares}
 use Rattle.tree_lines.proofs.SequenceStarts.{first_no_less, never_empty, start_is, first_within, first_is_zero, leaf_last}
 use Rattle.tree_lines.proofs.SequenceParts.{end_of, parent_of, rise_to, part_nodes, part_range, part_at, one_back, length-parts_of}
+use Rattle.tree_lines.proofs.SequenceSeeking.{no_leaf_at}
 use Rattle.tree_lines.proofs.SequenceWays.{parts_path, parts_are}
 use Rattle.tree_lines.proofs.SequenceCuts.{split_numbers, nodes_are, cut_back, front_within, goes_down}
 
@@ -118,10 +119,7 @@ module _ (c : Games) (next : ℕ) (path : List ℕ) (h : IsAfterSequences c next
 
     -- a sequence stands before the next one
     pub one_before : 1 ≤ next
-    one_before = elim (cases_lt 0 next) [
-      | inl lt ↦ omega arith
-      | inr ge ↦ let none : next ≡ 0 = omega arith in absurd (omega (arith, shown.after, ap (first_of c) none, first_is_zero c))
-    ]
+    one_before = let after = shown.after in let first = first_is_zero c in elim (cases_eq next 0) [ inl none ↦ absurd (omega (arith, rw none at after)) | inr other ↦ omega arith ]
 
     pub last_there : next - 1 < length (sequence_starts c)
     last_there = omega (arith, one_before, h.within)
@@ -189,7 +187,7 @@ module _ (c : Games) (next : ℕ) (path : List ℕ) (h : IsAfterSequences c next
 
     -- its nodes end after the first one
     pub next_rises : sequence_start c next ≤ sequence_end c leaf
-    next_rises = omega (arith, start_is c next next_there, next_leaf.from_there, never_empty c leaf n.within)
+    next_rises = grind (arith, common_steps, start_is, next_there, next_leaf, never_empty)
 
     pub moved : before c (first_of c (leaf + 1)) ≡ advanced state.at
     moved = ap (before c) (sym after_leaf) ∙ advances c (first_of c next) state.at at_is leaf_node next_leaf
@@ -235,8 +233,9 @@ module _ (c : Games) (next : ℕ) (path : List ℕ) (h : IsAfterSequences c next
 
   -- ---- The line that ends in a leaf.
 
-  pub no_such_line : (place : ℕ) → ((leaf : ℕ) → IsLeaf c leaf → place_at c leaf ≢ Some place) → HasNoLineAt state.at.games place
-  no_such_line place none = rw (← games_are) (no_line c place none)
+  pub no_such_line : (place sequence : ℕ) → PlacesRise c → IsFirstFrom c place sequence
+      → (sequence < length (sequence_starts c) → IsLeaf c (sequence_end c sequence - 1) → place_at c (sequence_end c sequence - 1) ≢ Some place) → HasNoLineAt state.at.games place
+  no_such_line place sequence rise first other = rw (← games_are) (no_line c place (no_leaf_at c place sequence rise first other))
 
   pub found : (sequence place : ℕ) → sequence < length (sequence_starts c) → IsLeaf c (sequence_end c sequence - 1) → place_at c (sequence_end c sequence - 1) ≡ Some place
       → IsAfterPlace place state.at (before state.at.games (sequence_end state.at.games sequence))

@@ -1,5 +1,5 @@
 -- Parts of a line: the numbers of their nodes, where they end, and the way to a sequence by the sequences above it.
-use Rattle.tree_lines.proofs.Common.{◌≡◌, ℕ, zero, suc, ◌+◌, ◌-◌, ◌<◌, ◌≤◌, List, [], ◌∷◌, ◌++◌, length, get_or, take, slice_get, Option, Some, None, option_map, refl, ap, ◌∙◌, arith, append-nil, length-append, rules, flat_map, range_with_len, take-append_seam, drop-append_seam, common_steps, flat_map-append, length-range_with_len, OrderedNode, parent_at, node_at, nodes_at, sequence_starts, sequence_start, sequence_end, sequence_numbers, Node, Games, node_count, RiseTo, parts_from, Part, sequence_length, parts_of, part_numbers, part_ends, AreParts, IsAbove, IsPathTo, sequence-further}
+use Rattle.tree_lines.proofs.Common.{◌≡◌, ℕ, zero, suc, ◌+◌, ◌-◌, ◌<◌, ◌≤◌, List, [], ◌∷◌, ◌++◌, length, get_or, take, slice_get, Option, Some, None, option_map, refl, ap, arith, append-nil, length-append, rules, flat_map, range_with_len, take-append_seam, drop-append_seam, common_steps, flat_map-append, length-range_with_len, OrderedNode, parent_at, node_at, nodes_at, sequence_starts, sequence_start, sequence_end, sequence_numbers, Node, Games, node_count, RiseTo, parts_from, Part, sequence_length, parts_of, part_numbers, part_ends, AreParts, IsAbove, IsPathTo, sequence-further}
 use Rattle.tree_lines.proofs.Lists.{front_more}
 use Rattle.tree_lines.proofs.Visits.{way_along}
 use Rattle.tree_lines.proofs.SequenceStarts.{ordered_there, never_empty, length_is, start_is, first_within}
@@ -51,6 +51,12 @@ module _ (c : Games) where
   part_at start [] i k e = absurd cc
   part_at start (j ∷ js) zero k e = let same : j ≡ k = cc in (record { sequence = j; end = start + sequence_length c j }, refl, same)
   part_at start (j ∷ js) (suc i) k e = part_at (start + sequence_length c j) js i k e
+
+  -- a part has the number that the path has there
+  pub part_number : (start : ℕ) (path : List ℕ) (i d : ℕ) (part : Part) → slice_get (parts_of c start path) i ≡ Some part → part.sequence ≡ get_or path i d
+  part_number start [] i d part e = absurd cc
+  part_number start (k ∷ ks) zero d part e = grind (arith, common_steps)
+  part_number start (k ∷ ks) (suc i) d part e = part_number (start + sequence_length c k) ks i d part e
 
   pub take-parts_of : (n start : ℕ) (path : List ℕ) → parts_of c start (take n path) ≡ take n (parts_of c start path)
   take-parts_of zero start path = refl
@@ -123,10 +129,7 @@ module _ (c : Games) where
   -- the nodes of a front that is longer by a part
   pub longer_front : (parts : List Part) (i : ℕ) (part : Part) → slice_get parts i ≡ Some part
       → length (part_numbers c (take (i + 1) parts)) ≡ length (part_numbers c (take i parts)) + sequence_length c part.sequence
-  longer_front parts i part e =
-      ap (λ ps. length (part_numbers c ps)) (front_more parts i part e) ∙ ap length (numbers_more (take i parts) part)
-      ∙ length-append (part_numbers c (take i parts)) (sequence_numbers c part.sequence)
-      ∙ ap (λ n. length (part_numbers c (take i parts)) + n) (sequence_long part.sequence)
+  longer_front parts i part e = grind (arith, common_steps, front_more parts i part e, numbers_more (take i parts) part, length-append, sequence_long)
 
   -- one sequence less of a front
   pub one_back : (path : List ℕ) (i k : ℕ) → AreParts c 0 (parts_of c 0 path) → slice_get path i ≡ Some k → (k < length (sequence_starts c))

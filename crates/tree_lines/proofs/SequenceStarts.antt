@@ -85,21 +85,11 @@ module _ (c : Games) where
 
   -- a leaf is the last of its sequence
   pub leaf_last : (n k : ℕ) → IsSequenceOf n k → IsLeaf c n → n + 1 ≡ sequence_end c k
-  leaf_last n k is leaf = elim (cases_lt (n + 1) (sequence_end c k)) [
-    | inl lt ↦ let less : n + 1 - 1 ≡ n = omega arith in absurd (leaf (n + 1) (rw less at (sequence-further c k is.within (n + 1) (omega (arith, is.start)) lt)))
-    | inr ge ↦ omega (arith, is.end)
-  ]
+  leaf_last n k is leaf = grind (arith, common_steps, sequence-further c k is.within (n + 1), leaf (n + 1))
 
   -- no leaf stands before the last node of a sequence, and none up to the next sequence, if that isn't one
   pub no_leaf_inside : (from k : ℕ) → k < length starts → HasNoLeaf c (first_of c from) (first_of c k) → HasNoLeaf c (first_of c from) (sequence_end c k - 1)
-  no_leaf_inside from k lt none n ge below leaf = elim (cases_lt n (first_of c k)) [
-    | inl before ↦ none n ge before leaf
-    | inr inside ↦
-        absurd (omega (arith, leaf_last n k (record { within = lt; start = omega (arith, start_is k lt); end = omega arith }) leaf))
-  ]
+  no_leaf_inside from k lt none n ge below leaf = grind (arith, common_steps, start_is k lt, none n ge, leaf_last n k)
 
   pub no_leaf_more : (from k : ℕ) → k < length starts → HasNoLeaf c (first_of c from) (first_of c k) → (IsLeaf c (sequence_end c k - 1) → ⊥) → HasNoLeaf c (first_of c from) (first_of c (k + 1))
-  no_leaf_more from k lt none other_end n ge below leaf = elim (cases_eq n (sequence_end c k - 1)) [
-    | inl last ↦ other_end (rw last at leaf)
-    | inr other ↦ no_leaf_inside from k lt none n ge (omega arith) leaf
-  ]
+  no_leaf_more from k lt none other_end n ge below leaf = grind (arith, common_steps, start_is k lt, cases_eq n (sequence_end c k - 1), no_leaf_inside from k lt none n ge)

@@ -182,10 +182,7 @@ module _ (c : Games) (at : ℕ) (parent : Option ℕ) (first : Node) (more : Lis
 
   -- the node after the games below has its parent before them
   after_above : (i : ℕ) → parent_at c (last + 1 + node_count below) ≡ Some (Some i) → i < at
-  after_above i e = elim (cases_lt 0 (node_count after)) [
-    | inl some ↦ h.parent_first i (let one = games_parent c (last + 1 + node_count below) parent after (stands_after c at parent first more below after h.stands) some in cc)
-    | inr none ↦ h.next_above i (let same : last + 1 + node_count below ≡ at + node_count (game first more below after) = omega arith in rw same at e)
-  ]
+  after_above i e = grind (arith, common_steps, cases_lt 0 (node_count after), games_parent c (last + 1 + node_count below) parent after (stands_after c at parent first more below after h.stands), h.parent_first i, h.next_above i)
 
   among_below : Among c (last + 1) (Some last) below
   among_below = grind (arith, common_steps, stands_below, after_above)
@@ -194,10 +191,7 @@ module _ (c : Games) (at : ℕ) (parent : Option ℕ) (first : Node) (more : Lis
   among_after = grind (arith, common_steps, stands_after)
 
   own_chain : (n : ℕ) → at < n → n ≤ last → parent_at c n ≡ Some (Some (n - 1))
-  own_chain n lt le =
-      let here : at + suc (n - at - 1) ≡ n = omega arith in
-      let there : at + (n - at - 1) ≡ n - 1 = omega arith in
-      rw (here, there) at (further_parent c at parent first more below after h.stands (n - at - 1) (omega arith))
+  own_chain n lt le = grind (arith, common_steps, further_parent c at parent first more below after h.stands (n - at - 1))
 
   -- down its own nodes too
   own_down : (from : ℕ) (above old : List ℕ) → Down c from at parent above old → Down c from (last + 1) (Some last) (above ++ range_with_len at (suc (length more))) old

@@ -32,7 +32,7 @@
 //! | Rule (docs/OUTPUT.md) | Function, and its module |
 //! |---|---|
 //! | the order of the lines | `SequenceCursor::advance` (`sequence_cursor`) |
-//! | `--after`, and that no line ends there | `SequenceCursor::seek_after`, by `end_at` (`sequence_cursor`) |
+//! | `--after`, and that no line ends there | `SequenceCursor::seek_after`, by `first_from` (`sequence_cursor`) |
 //! | PLACE, GAME and NODES of a row | `SequenceCursor::place`, `SequenceCursor::game`, `SequenceCursor::len` (`sequence_cursor`) |
 //!
 //! The tests of the program (`tests/`) and the crate `sgf_lines_tests` call these cursors, by way of the crate `sgf_lines`.

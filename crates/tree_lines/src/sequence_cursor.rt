@@ -13,7 +13,7 @@ ghost use Rattle.tree_lines.specs.Lines.{lines, place_of};
 ghost use Rattle.tree_lines.specs.Cursor.{advanced, IsAfterPlace, IsSeekFault};
 ghost use Rattle.tree_lines.specs.Following.{line_before, nodes_before, path_before, lines_before};
 ghost use Rattle.tree_lines.specs.Sequences.{RiseTo, SharesFront, sequences_of, parts_from};
-ghost use Rattle.tree_lines.specs.inner.Parts.{part_numbers, parts_of, sequence_length, AreParts, IsEndSearch, IsFrontUpTo, IsWayTo, MeasuresTo, IsEndAt, IsFirstFrom};
+ghost use Rattle.tree_lines.specs.inner.Parts.{part_numbers, parts_of, AreParts, IsEndSearch, IsFrontUpTo, IsWayTo, MeasuresTo, IsFirstFrom};
 
 use crate::seek::SeekFault;
 use sgf_tree::{MemoryFault, NodeRef, Outline, SequenceNodes};
@@ -93,11 +93,17 @@ impl<'c, 'a> SequenceCursor<'c, 'a> {
         ensures why { IfErr result (IsSeekFault self.old.at.games place) }
         ensures unchanged { OnErr result (self.new ≡ self.old) }
     {
-        let Some(sequence) = end_at(self.outline, place) else {
-            return Err(SeekFault::NoSuchLine { place });
-        };
-        self.seek_end(sequence)?;
-        Ok(())
+        // Places rise in file order.
+        let _nodes = self.outline.nodes();
+        let sequence = first_from(self.outline, place);
+        if sequence < self.outline.sequences()
+            && self.outline.last_place(sequence) as u64 == place
+            && self.outline.ends_in_leaf(sequence)
+        {
+            self.seek_end(sequence)?;
+            return Ok(());
+        }
+        Err(SeekFault::NoSuchLine { place })
     }
 
     /// Moves the cursor to just after the line that ends in the node with the number `leaf`, from 0 in file order. The node must be a
@@ -122,7 +128,10 @@ impl<'c, 'a> SequenceCursor<'c, 'a> {
     {
         // There are no more nodes than bytes.
         let _nodes = self.outline.nodes();
-        self.nodes = write_parts(self.outline, sequence, &mut self.path)?;
+        let line = measure(self.outline, sequence);
+        self.path.resize(line.sequences, 0)?;
+        fill_path(self.outline, sequence, line, &mut self.path);
+        self.nodes = line.nodes;
         self.next = sequence + 1;
         Ok(())
     }
@@ -273,14 +282,6 @@ impl<'c, 'a> SequenceCursor<'c, 'a> {
     }
 }
 
-/// How many nodes a sequence has.
-fn sequence_length(outline: &Outline<'_>, sequence: usize) -> usize
-    requires { sequence < length (sequence_starts outline.now) }
-    ensures { result ≡ sequence_length outline.now sequence }
-{
-    outline.sequence_end(sequence) - outline.sequence_start(sequence)
-}
-
 /// The first sequence from the sequence `from` on with which a line ends; None if there is none.
 fn next_end(outline: &Outline<'_>, from: usize) -> Option<usize>
     ensures first { IsEndSearch outline.now from result }
@@ -311,29 +312,12 @@ fn front_up_to(outline: &Outline<'_>, path: &[u32], nodes: usize, outer: Option<
     let mut nodes = nodes;
     while kept > 0 && path[kept - 1] as usize != outer {
         kept -= 1;
-        nodes -= sequence_length(outline, path[kept] as usize);
+        let passed = path[kept] as usize;
+        nodes -= outline.sequence_end(passed) - outline.sequence_start(passed);
     }
     Front {
         sequences: kept,
         nodes,
-    }
-}
-
-/// The sequence that ends in the leaf with this place. None if no line ends there, which `NoSuchLine` says.
-#[tactic(auto, using(crate::proofs::SequenceSeeking::no_leaf_at))]
-fn end_at(outline: &Outline<'_>, place: u64) -> Option<usize>
-    ensures { IsEndAt outline.now place result }
-{
-    // Places rise in file order.
-    let _nodes = outline.nodes();
-    let sequence = first_from(outline, place);
-    if sequence < outline.sequences()
-        && outline.last_place(sequence) as u64 == place
-        && outline.ends_in_leaf(sequence)
-    {
-        Some(sequence)
-    } else {
-        None
     }
 }
 
@@ -355,24 +339,6 @@ fn first_from(outline: &Outline<'_>, place: u64) -> usize
     low
 }
 
-/// Replaces a path by the one from the root to the end of a sequence, and returns how many nodes it has. After a refusal of memory `path` is
-/// unchanged.
-fn write_parts(
-    outline: &Outline<'_>,
-    sequence: usize,
-    path: &mut Vec<u32>,
-) -> Result<usize, MemoryFault>
-    requires within { sequence < length (sequence_starts outline.now) }
-    requires few { node_count outline.now ≤ MAX_LENGTH }
-    ensures ok { IfOk result (IsWayTo outline.now sequence path.new.items) }
-    ensures unchanged { OnErr result (path.new.items ≡ path.old.items) }
-{
-    let line = measure(outline, sequence);
-    path.resize(line.sequences, 0)?;
-    fill_path(outline, sequence, line, path);
-    Ok(line.nodes)
-}
-
 /// How many sequences and nodes stand from the root to the end of a sequence.
 #[tactic(auto, using(crate::proofs::SequenceStarts::fewer, crate::proofs::SequenceClimbing::measure_begins, crate::proofs::SequenceClimbing::measure_fits))]
 fn measure(outline: &Outline<'_>, last: usize) -> Front
@@ -385,7 +351,7 @@ fn measure(outline: &Outline<'_>, last: usize) -> Front
     let mut sequence = Some(last);
     while let Some(number) = sequence {
         sequences += 1;
-        nodes += sequence_length(outline, number);
+        nodes += outline.sequence_end(number) - outline.sequence_start(number);
         sequence = outline.sequence_outer(number);
     }
     Front { sequences, nodes }

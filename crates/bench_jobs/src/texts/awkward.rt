@@ -2,26 +2,23 @@
 
 use crate::chance::Chance;
 use crate::goban::{Goban, PASS, Player};
-use crate::texts::parts::{Lists, Manner, Part, add_parts, whole};
+use crate::texts::parts::{Lists, Manner, Part, add_parts};
 use crate::texts::{Text, Words};
-use std::alloc::{AllocError, Global};
+use std::alloc::Global;
 
-/// So many games in which nobody lives: captures and kos without end.
-pub(crate) fn make_fights(
-    alloc: Global,
-    side: usize,
-    count: usize,
-    moves: usize,
-    chance: &mut Chance,
-) -> Result<Lists, AllocError> {
+/// The sides of the boards that have fights.
+const SIDES: [usize; 3] = [9, 19, 52];
+
+/// So many games on the boards of each side in which nobody lives: captures and kos without end. First come all those of the first side.
+pub(crate) fn make_fights(alloc: Global, count: usize, moves: usize, chance: &mut Chance) -> Lists {
     let mut fights = Lists::new(alloc);
-    let mut goban = Goban::new(side);
-    for _ in 0..count {
-        goban.clear(side);
+    let mut goban = Goban::new(19);
+    for number in 0..count.saturating_mul(3) {
+        goban.clear(SIDES[number / count.max(1) % 3]);
         add_fight(&mut fights, &mut goban, moves, chance);
         fights.end();
     }
-    whole(fights)
+    fights
 }
 
 /// Adds a fight. Where the simplest ko forbids a move, and before every eighth move, there is a variation: the forbidden move, which
@@ -68,61 +65,73 @@ fn branch_off(fights: &mut Lists, player: Player, point: usize) {
     fights.add(Part::Open);
 }
 
-/// Adds a fight as a game.
-pub(crate) fn add_fight_game(
+/// Adds a fight of each side as a game. The board is turned another way for each of eight numbers in a row.
+pub(crate) fn add_fight_games(
     text: &mut Text,
     fights: &Lists,
     words: &Words,
-    side: usize,
     number: usize,
     chance: &mut Chance,
 ) {
-    let manner = Manner {
-        side,
-        turned: number % 8,
-        timed: false,
-        comments: 512,
-        words: 20,
-    };
-    text.add_root(side);
-    add_parts(text, fights.list(number / 8), words, manner, chance);
-    text.add(b")\n");
+    text.keep(!fights.is_cut());
+    let count = fights.len() / 3;
+    let number = number % count.saturating_mul(8).max(1);
+    for (i, side) in SIDES.iter().enumerate() {
+        let manner = Manner {
+            side: *side,
+            turned: number % 8,
+            timed: false,
+            comments: 512,
+            words: 20,
+        };
+        text.add_root(*side);
+        let fight = fights.list(i.saturating_mul(count).saturating_add(number / 8));
+        add_parts(text, fight, words, manner, chance);
+        text.add(b")\n");
+    }
 }
 
 /// Adds a game with so many variations of one move, after the moves of a fight.
 pub(crate) fn add_wide(
     text: &mut Text,
+    words: &Words,
     goban: &mut Goban,
     moves: usize,
     variations: usize,
     chance: &mut Chance,
 ) {
-    goban.clear(19);
-    text.add_root(19);
-    let player = add_moves(text, goban, moves, chance);
+    let player = add_moves(text, words, 0, goban, moves, chance);
     for _ in 0..variations {
-        add_variation(text, player, goban.anywhere(chance));
+        text.add(b"(");
+        text.add_move(player, goban.anywhere(chance), 19, 0);
+        text.add(b")");
     }
     text.add(b")\n");
 }
 
-/// Adds so many moves from an empty board. Returns the player of the next one.
-fn add_moves(text: &mut Text, goban: &mut Goban, moves: usize, chance: &mut Chance) -> Player {
+/// Adds the beginning of a game, and so many moves from an empty board. Unless `most` is 0, each has a comment of up to so many words.
+/// Returns the player of the next move.
+fn add_moves(
+    text: &mut Text,
+    words: &Words,
+    most: usize,
+    goban: &mut Goban,
+    moves: usize,
+    chance: &mut Chance,
+) -> Player {
+    goban.clear(19);
+    text.add_root(19);
     let mut player = Player::Black;
     let mut last = PASS;
     for _ in 0..moves {
         last = goban.play_on(player, last, chance);
         text.add_move(player, last, 19, 0);
+        if most > 0 {
+            words.add_comment(text, most, chance);
+        }
         player = player.other();
     }
     player
-}
-
-/// Adds a variation of one move.
-fn add_variation(text: &mut Text, player: Player, point: usize) {
-    text.add(b"(");
-    text.add_move(player, point, 19, 0);
-    text.add(b")");
 }
 
 /// Adds a game with a comment of pages at each of so many moves.
@@ -133,15 +142,6 @@ pub(crate) fn add_lecture(
     moves: usize,
     chance: &mut Chance,
 ) {
-    goban.clear(19);
-    text.add_root(19);
-    let mut player = Player::Black;
-    let mut last = PASS;
-    for _ in 0..moves {
-        last = goban.play_on(player, last, chance);
-        text.add_move(player, last, 19, 0);
-        words.add_comment(text, 4000, chance);
-        player = player.other();
-    }
+    add_moves(text, words, 4000, goban, moves, chance);
     text.add(b")\n");
 }

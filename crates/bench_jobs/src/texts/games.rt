@@ -4,9 +4,9 @@ ghost use Rattle.std.specs.Prelude.{◌≤◌, IfSome, length};
 
 use crate::chance::Chance;
 use crate::goban::{Goban, PASS, Player};
-use crate::texts::parts::{Lists, Manner, Part, add_parts, whole};
+use crate::texts::parts::{Lists, Manner, Part, add_parts};
 use crate::texts::{Text, Words};
-use std::alloc::{AllocError, Global};
+use std::alloc::Global;
 
 /// Games, each as the text after its root, once for each way to turn the board.
 #[derive(Drop)]
@@ -27,22 +27,20 @@ impl Games {
         moves: usize,
         words: &Words,
         chance: &mut Chance,
-    ) -> Result<Games, AllocError> {
-        let made = make_games(alloc, count, moves, chance)?;
+    ) -> Games {
+        let made = make_games(alloc, count, moves, chance);
         let mut games = Games {
             bodies: Text::new(alloc),
             ends: Vec::new(alloc),
         };
+        games.bodies.keep(!made.is_cut());
         for number in 0..count {
             games.add_turned(number, made.list(number), words, chance);
         }
-        if games.bodies.is_cut() {
-            return Err(AllocError);
-        }
-        Ok(games)
+        games
     }
 
-    /// Adds the game with this number once for each way to turn the board.
+    /// Adds the game with this number once for each way to turn the board. Some end with two moves on the same point.
     fn add_turned(&mut self, number: usize, parts: &[Part], words: &Words, chance: &mut Chance) {
         for turned in 0..8 {
             let manner = Manner {
@@ -54,26 +52,14 @@ impl Games {
             };
             // a game with variations can't go on after them
             let again = number % 10 != 9 && chance.once_in(50);
-            self.add_body(parts, again, words, manner, chance);
+            let last = add_parts(&mut self.bodies, parts, words, manner, chance);
+            if again {
+                self.bodies.add(b";B[dd];W[dd]");
+            }
+            self.bodies.add(b")\n");
+            let is_kept = self.ends.push((last, self.bodies.len())).is_ok();
+            self.bodies.keep(is_kept);
         }
-    }
-
-    /// Adds a body. If `again` is true, its last two moves are on the same point.
-    fn add_body(
-        &mut self,
-        parts: &[Part],
-        again: bool,
-        words: &Words,
-        manner: Manner,
-        chance: &mut Chance,
-    ) {
-        let last = add_parts(&mut self.bodies, parts, words, manner, chance);
-        if again {
-            self.bodies.add(b";B[dd];W[dd]");
-        }
-        self.bodies.add(b")\n");
-        let is_kept = self.ends.push((last, self.bodies.len())).is_ok();
-        self.bodies.keep(is_kept);
     }
 
     /// Where the last node of a body begins, and where the body ends; both 0 if there is no such body.
@@ -94,6 +80,7 @@ impl Games {
     /// Adds one of the games to a text, with a long header if `full` is true. Returns the place of its last node.
     pub(crate) fn add_one(&self, text: &mut Text, full: bool, chance: &mut Chance) -> usize {
         let (start, last, end) = self.span(chance.below(self.ends.len()));
+        text.keep(!self.bodies.is_cut());
         text.add_root(19);
         if full {
             add_header(text, chance);
@@ -108,6 +95,7 @@ impl Games {
     pub(crate) fn add_part(&self, text: &mut Text, number: usize, full: bool, chance: &mut Chance) {
         let count = self.ends.len().max(1);
         let cut = number / count % CUTS;
+        text.keep(!self.bodies.is_cut());
         text.add(b"(;GM[1]FF[4]SZ[19]GN[Part ");
         text.add_number(cut);
         text.add(b"]");
@@ -167,12 +155,7 @@ fn add_closed(text: &mut Text, front: &[u8]) {
 }
 
 /// So many games on 19 by 19 with up to `moves` moves, at least half of these. Every tenth has a variation.
-fn make_games(
-    alloc: Global,
-    count: usize,
-    moves: usize,
-    chance: &mut Chance,
-) -> Result<Lists, AllocError> {
+fn make_games(alloc: Global, count: usize, moves: usize, chance: &mut Chance) -> Lists {
     let mut games = Lists::new(alloc);
     let mut goban = Goban::new(19);
     let mut line: Vec<u16> = Vec::new(alloc);
@@ -181,7 +164,7 @@ fn make_games(
         games.keep(play_game(&mut goban, &mut line, length, chance));
         add_game(&mut games, &mut goban, &line, number % 10 == 9, chance);
     }
-    whole(games)
+    games
 }
 
 /// Adds a game with the moves of a line. If `branches` is true, it has a variation.
@@ -199,25 +182,14 @@ fn add_game(
     };
     add_line(games, line, 0, branch);
     if branch < line.len() {
-        add_branches(games, goban, line, branch, chance);
+        games.add(Part::Open);
+        add_line(games, line, branch, line.len());
+        games.add(Part::Close);
+        games.add(Part::Open);
+        add_variation(games, goban, line, branch, chance);
+        games.add(Part::Close);
     }
     games.end();
-}
-
-/// Adds the rest of a line, and then a variation of it.
-fn add_branches(
-    games: &mut Lists,
-    goban: &mut Goban,
-    line: &[u16],
-    branch: usize,
-    chance: &mut Chance,
-) {
-    games.add(Part::Open);
-    add_line(games, line, branch, line.len());
-    games.add(Part::Close);
-    games.add(Part::Open);
-    add_variation(games, goban, line, branch, chance);
-    games.add(Part::Close);
 }
 
 /// Plays a game from an empty board. Returns whether all its moves were kept.
@@ -239,7 +211,7 @@ fn play_game(goban: &mut Goban, line: &mut Vec<u16>, length: usize, chance: &mut
 fn add_line(games: &mut Lists, line: &[u16], start: usize, end: usize) {
     for (i, point) in line.iter().enumerate() {
         if start <= i && i < end {
-            games.add_move(player_at(i), usize::from(*point));
+            games.add_move(Player::at(i), usize::from(*point));
         }
     }
 }
@@ -255,20 +227,11 @@ fn add_variation(
     goban.clear(19);
     for (i, point) in line.iter().enumerate() {
         if i < branch {
-            goban.play(player_at(i), usize::from(*point));
+            goban.play(Player::at(i), usize::from(*point));
         }
     }
     let moves = chance.below(30).saturating_add(1);
-    games.add_moves(goban, player_at(branch), moves, chance);
-}
-
-/// The player of a move, by the number of moves before it.
-pub(crate) fn player_at(depth: usize) -> Player {
-    if depth % 2 == 0 {
-        Player::Black
-    } else {
-        Player::White
-    }
+    games.add_moves(goban, Player::at(branch), moves, chance);
 }
 
 /// What stands before each number in the rest of a root.

@@ -1,11 +1,10 @@
 //! A joseki dictionary: one game whose variations branch again and again, in a corner. It has each sequence in all corners.
 
 use crate::chance::Chance;
-use crate::goban::{Goban, PASS};
-use crate::texts::games::player_at;
-use crate::texts::parts::{Lists, Manner, Part, add_parts, whole};
+use crate::goban::{Goban, PASS, Player};
+use crate::texts::parts::{Lists, Manner, Part, add_parts};
 use crate::texts::{Text, Words};
-use std::alloc::{AllocError, Global};
+use std::alloc::Global;
 
 /// A branch that is still open.
 #[derive(Clone, Copy)]
@@ -53,7 +52,8 @@ impl Growth {
     /// Adds a variation that begins where a branch ends. The branch stays open.
     fn go_on(&mut self, tree: &mut Lists, branch: Branch, chance: &mut Chance) {
         self.add(tree, branch.left.saturating_sub(1), branch.depth);
-        set_line(&mut self.goban, &mut self.line, branch.depth);
+        self.line.truncate(branch.depth);
+        self.goban.set_line(12, &self.line);
         tree.add(Part::Open);
         let moves = 1 + chance.below(4).min(3);
         add_branch(tree, &mut self.goban, &mut self.line, moves, chance);
@@ -72,7 +72,7 @@ fn variations_at(depth: usize, chance: &mut Chance) -> usize {
 }
 
 /// One list of about `parts` parts. Branches have one to four moves, and two to four variations after them.
-fn make_tree(alloc: Global, parts: usize, chance: &mut Chance) -> Result<Lists, AllocError> {
+fn make_tree(alloc: Global, parts: usize, chance: &mut Chance) -> Lists {
     let mut tree = Lists::new(alloc);
     let mut growth = Growth::new(alloc, &mut tree);
     for _ in 0..parts {
@@ -86,16 +86,7 @@ fn make_tree(alloc: Global, parts: usize, chance: &mut Chance) -> Result<Lists, 
         }
     }
     tree.end();
-    whole(tree)
-}
-
-/// Cuts the line back, and sets the board to its end.
-fn set_line(goban: &mut Goban, line: &mut Vec<u16>, depth: usize) {
-    line.truncate(depth);
-    goban.clear(12);
-    for (i, point) in line.iter().enumerate() {
-        goban.put(player_at(i), usize::from(*point));
-    }
+    tree
 }
 
 /// Adds moves that go on with the line.
@@ -111,7 +102,7 @@ fn add_branch(
             Some(point) => usize::from(*point),
             None => PASS,
         };
-        let player = player_at(line.len());
+        let player = Player::at(line.len());
         let point = goban.play_on(player, last, chance);
         tree.keep(line.push((point % 4096) as u16).is_ok());
         tree.add_move(player, point);
@@ -125,8 +116,9 @@ pub(crate) fn add_joseki(
     words: &Words,
     parts: usize,
     chance: &mut Chance,
-) -> Result<(), AllocError> {
-    let tree = make_tree(alloc, parts, chance)?;
+) {
+    let tree = make_tree(alloc, parts, chance);
+    text.keep(!tree.is_cut());
     text.add_root(19);
     for turned in 0..8 {
         let manner = Manner {
@@ -139,5 +131,4 @@ pub(crate) fn add_joseki(
         add_parts(text, tree.list(0), words, manner, chance);
     }
     text.add(b")\n");
-    Ok(())
 }

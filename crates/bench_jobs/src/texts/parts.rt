@@ -3,7 +3,7 @@
 use crate::chance::Chance;
 use crate::goban::{Goban, PASS, Player};
 use crate::texts::{Text, Words};
-use std::alloc::{AllocError, Global};
+use std::alloc::Global;
 
 /// A part of a game.
 #[derive(Clone, Copy)]
@@ -65,6 +65,11 @@ impl Lists {
         self.is_cut = self.is_cut || !is_kept;
     }
 
+    /// Whether memory was refused to the lists.
+    pub(crate) fn is_cut(&self) -> bool {
+        self.is_cut
+    }
+
     /// Adds a move.
     pub(crate) fn add_move(&mut self, player: Player, point: usize) {
         self.add(Part::Move(player, (point % 4096) as u16));
@@ -109,14 +114,6 @@ impl Lists {
             &[]
         }
     }
-}
-
-/// These lists, unless memory was refused to them.
-pub(crate) fn whole(lists: Lists) -> Result<Lists, AllocError> {
-    if lists.is_cut {
-        return Err(AllocError);
-    }
-    Ok(lists)
 }
 
 /// How parts are written.

@@ -2,17 +2,12 @@
 
 use crate::chance::Chance;
 use crate::goban::{Goban, PASS, Player};
-use crate::texts::games::player_at;
-use crate::texts::parts::{Lists, Manner, Part, add_parts, whole};
+use crate::texts::parts::{Lists, Manner, Part, add_parts};
 use crate::texts::{Text, Words};
-use std::alloc::{AllocError, Global};
+use std::alloc::Global;
 
 /// So many problems in a corner, with 10 to 40 stones and two to ten answers of one to eight moves.
-pub(crate) fn make_problems(
-    alloc: Global,
-    count: usize,
-    chance: &mut Chance,
-) -> Result<Lists, AllocError> {
+pub(crate) fn make_problems(alloc: Global, count: usize, chance: &mut Chance) -> Lists {
     let mut problems = Lists::new(alloc);
     let mut goban = Goban::new(9);
     let mut stones: Vec<u16> = Vec::new(alloc);
@@ -21,7 +16,7 @@ pub(crate) fn make_problems(
         problems.keep(set_stones(&mut goban, &mut stones, most, chance));
         add_problem(&mut problems, &mut goban, &stones, chance);
     }
-    whole(problems)
+    problems
 }
 
 /// Adds a problem with these stones, which are black and white by turns.
@@ -32,18 +27,10 @@ fn add_problem(problems: &mut Lists, goban: &mut Goban, stones: &[u16], chance: 
     add_stones(problems, stones, 1);
     problems.add(Part::Asked);
     for _ in 0..chance.below(9).saturating_add(2) {
-        put_stones(goban, stones);
+        goban.set_line(9, stones);
         add_answer(problems, goban, chance);
     }
     problems.end();
-}
-
-/// Puts these stones on an empty board.
-fn put_stones(goban: &mut Goban, stones: &[u16]) {
-    goban.clear(9);
-    for (i, point) in stones.iter().enumerate() {
-        goban.put(player_at(i), usize::from(*point));
-    }
 }
 
 /// Puts stones of both players near one another. Returns whether all of them were kept.
@@ -53,7 +40,7 @@ fn set_stones(goban: &mut Goban, stones: &mut Vec<u16>, most: usize, chance: &mu
     let mut is_kept = true;
     let mut last = PASS;
     for i in 0..most {
-        if let Some(point) = goban.play_somewhere(player_at(i), last, true, chance) {
+        if let Some(point) = goban.play_somewhere(Player::at(i), last, true, chance) {
             is_kept &= stones.push((point % 4096) as u16).is_ok();
             last = point;
         }
@@ -89,6 +76,7 @@ pub(crate) fn add_problems(
     size: usize,
     chance: &mut Chance,
 ) {
+    text.keep(!problems.is_cut());
     for _ in 0..size {
         if text.len() >= size {
             break;

@@ -59,12 +59,6 @@ pub record IsPrintOfNext (held : List Held) (table : Table) (next : Held) (print
   pub awake : IfSome print (λ number. IsAwakeTable held table × (number ≡ print_of next.colouring))
   pub asleep : IfNone print (IsAsleepTable held table)
 
--- the tables are the same but for the hashes that are kept
-pub record SameButHashes (old new : Table) : Type 0 where
-  pub trie : new.trie ≡ old.trie
-  pub prints : new.prints.items ≡ old.prints.items
-  pub hashed : new.hashed ≡ old.hashed
-
 -- the first position where two keys differ
 abbrev pub IsFirstApart : (ℕ → Bool) → (ℕ → Bool) → Option ℕ → Type 0
 IsFirstApart one other position = MatchOption position (Agree one other WIDTH) (λ position. (position < WIDTH) × Agree one other position × (one position ≢ other position))

@@ -33,11 +33,11 @@ ghost use Rattle.board_stones.specs.Grid.{cell_at};
 ghost use Rattle.board_stones.specs.Clearing.{has_unreaching, play};
 ghost use Rattle.board_past.specs.Past.{all_of, newest_grid, with_next, present_stretch, HaveSide, PastColourings, IsPlayed};
 ghost use Rattle.board_past.specs.inner.Changes.{is_fresh, is_settled, IsFreshStone};
-ghost use Rattle.board_past.specs.inner.Emptied.{ArePlayedAtOnce, IsEmptied, IsPrintPast};
+ghost use Rattle.board_past.specs.inner.Emptied.{ArePlayedAtOnce, IsPrintPast};
 ghost use Rattle.board_stones.specs.Move.{IsMove, IsEmptyOnSettled, Clears};
 ghost use Rattle.board_past.specs.inner.Print.{print_of, IsPrintedMove};
 ghost use Rattle.board_points.specs.Rows.{is_set};
-ghost use Rattle.board_past.specs.inner.Table.{IsAwakeTable, IsGap, IsPrintOfNext, IsTable};
+ghost use Rattle.board_past.specs.inner.Table.{IsAwakeTable, IsGap, IsPrintOfNext};
 
 use crate::fault::MemoryFault;
 use crate::past::Past;
@@ -93,8 +93,15 @@ impl Past for PrintPast {
         })
     }
 
+    /// Compares all colourings of the stretch, one by one. A run asks this of a stretch of one colouring alone.
     fn holds(&self, board: &Board) -> bool {
-        self.colourings.holds(board)
+        let start = self.colourings.stretch_start();
+        'each: for number in (start..self.colourings.len()).rev() {
+            if board.same(&self.colourings.board_at(number)) {
+                return true;
+            }
+        }
+        false
     }
 
     fn newest(&self) -> &Board {
@@ -105,8 +112,14 @@ impl Past for PrintPast {
         self.add(board, false)
     }
 
+    /// First wakes the table and puts the colourings of the present stretch into the trie, if there are several. After the setup this would
+    /// cost more: to work out a colouring, one goes back over later ones, and a setup may have changed all rows.
     fn restart(&mut self, board: &Board) -> Result<(), MemoryFault> {
-        self.link_stretch();
+        if self.colourings.stretch_start() + 1 < self.colourings.len() {
+            self.at_once_below = 0;
+            self.table.wake(&self.colourings);
+            self.table.link(&self.colourings);
+        }
         self.add(board, true)
     }
 
@@ -169,18 +182,6 @@ impl Past for PrintPast {
 }
 
 impl PrintPast {
-    /// Wakes the table and puts the colourings of the present stretch into the trie, if there are several. After a setup this would cost
-    /// more: to work out a colouring, one goes back over later ones, and a setup may have changed all rows.
-    fn link_stretch(&mut self)
-        ensures { self.new ≡ self.old }
-    {
-        if self.colourings.stretch_start() + 1 < self.colourings.len() {
-            self.at_once_below = 0;
-            self.table.wake(&self.colourings);
-            self.table.link(&self.colourings);
-        }
-    }
-
     /// Adds a colouring, which begins a stretch or continues the present one.
     fn add(&mut self, board: &Board, begins: bool) -> Result<(), MemoryFault>
         requires { HaveSide board.now.side self.old }
@@ -193,8 +194,11 @@ impl PrintPast {
             None
         };
         let number = self.colourings.len();
+        let newest = self.colourings.newest();
+        newest.has_all_cells();
         let mut stones = no_rows();
-        add_stones(self.colourings.newest(), &mut stones);
+        add_points(newest.rows_of(Colour::Black), &mut stones);
+        add_points(newest.rows_of(Colour::White), &mut stones);
         self.emptied.reserve(stones.len())?;
         self.table.reserve(number)?;
         self.colourings.add(board, begins)?;
@@ -422,9 +426,8 @@ fn at_once_below(colourings: &Colourings, table: &Table) -> usize
     room.min(steps - steps % FULL + (FULL - 1))
 }
 
-/// Adds the colouring that a stone makes; `cleared` is what the stone clears. `known` is what is known of the newest colouring, and whether
-/// no colouring of the present stretch has a stone on that point. `print` is the colouring's print, or None if the table sleeps. Puts the
-/// colouring into the trie if its gap there is known. After a refusal nothing is changed.
+/// Adds the colouring that a stone makes; `cleared` and `known` are as in `play_new`. `print` is the colouring's print, or None if the table
+/// sleeps. Puts the colouring into the trie if its gap there is known. After a refusal nothing is changed.
 // No method: between its steps the invariant of the past doesn't hold.
 #[inline(always)]
 fn add_stone(
@@ -438,8 +441,7 @@ fn add_stone(
     print: Option<u64>,
     gap: Option<Gap>,
 ) -> Result<(), MemoryFault>
-    requires table { IsTable (all_of colourings.old) table.old }
-    requires emptied { IsEmptied (all_of colourings.old) emptied.old }
+    requires past { (below : ℕ) × IsPrintPast colourings.old table.old emptied.old below }
     requires stone { IsMove (newest_grid colourings.old) colour point cleared.now }
     requires settled { IsTrue (is_settled known) → has_unreaching (newest_grid colourings.old) ≡ false }
     requires fresh { IsTrue (is_fresh known) → IsFreshStone (with_next colourings.old (play (newest_grid colourings.old) colour point) false) point }
@@ -449,9 +451,7 @@ fn add_stone(
         (with_next colourings.old (play (newest_grid colourings.old) colour point) false).newest) }
     ensures ok { OnOk result (colourings.new ≡ with_next colourings.old (play (newest_grid colourings.old) colour point) false) }
     ensures err { OnErr result (colourings.new ≡ colourings.old) }
-    ensures table { IsTable (all_of colourings.new) table.new }
-    ensures at_once { (below : ℕ) → ArePlayedAtOnce colourings.old table.old below → ArePlayedAtOnce colourings.new table.new below }
-    ensures emptied { IsEmptied (all_of colourings.new) emptied.new }
+    ensures past { (below : ℕ) → IsPrintPast colourings.old table.old emptied.old below → IsPrintPast colourings.new table.new emptied.new below }
 {
     colourings.newest().has_all_cells();
     let number = colourings.len();
@@ -492,15 +492,4 @@ fn gap_of_stone(
         return None;
     }
     table.gap_by_board(colourings, &made, print)
-}
-
-/// Adds the points of a board's stones to a set.
-fn add_stones(board: &Board, all: &mut [u64])
-    requires { length all.old ≡ MAX_ROWS }
-    ensures stones { (point : Point) → IsOn board.now.side point → cell_at board.now point ≢ Empty → IsTrue (is_set all.new point) }
-    ensures rows { length all.new ≡ length all.old }
-{
-    board.has_all_cells();
-    add_points(board.rows_of(Colour::Black), all);
-    add_points(board.rows_of(Colour::White), all);
 }

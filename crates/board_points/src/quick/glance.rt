@@ -4,13 +4,12 @@
 ghost use Rattle.std.specs.Prelude.{◌≡◌, ◌+◌, ◌<◌, false, ℕ, IsTrue, IsFalse, length};
 ghost use Rattle.board_points.specs.declared.points.Point.{Point};
 ghost use Rattle.board_points.specs.Point.{IsOn};
-ghost use Rattle.board_points.specs.Rows.{has_bit, is_set};
+ghost use Rattle.board_points.specs.Rows.{has_bit, is_set, AreOfOneBoard};
 ghost use Rattle.board_points.specs.inner.Columns.{IsOpenBeside};
 ghost use Rattle.board_points.specs.inner.Look.{AreColumnsOff, IsNextRow, IsRowAt};
 ghost use Rattle.board_points.specs.Glance.{LeavesAllAlive};
-ghost use Rattle.board_points.specs.Rows.{AreOfOneBoard};
 
-use crate::columns::{columns_off, has_column, with_column};
+use crate::columns::{all_columns, has_column, with_column};
 use crate::liberty::{RowStones, columns_beside, row_at, row_inside};
 use crate::points::Point;
 
@@ -26,6 +25,7 @@ struct NextRow {
 /// its own or of a stone beside it. And each stone of the opponent beside it still has an empty point beside itself. The point must be on
 /// the board of these rows.
 #[inline(always)]
+#[tactic(auto, using(crate::proofs::WordLemmas::columns_off))]
 pub fn leaves_all_alive(own: &[u64], others: &[u64], point: Point) -> bool
     requires rows { AreOfOneBoard own.now others.now }
     requires on_board { IsOn (length own.now) point }
@@ -38,7 +38,7 @@ pub fn leaves_all_alive(own: &[u64], others: &[u64], point: Point) -> bool
     if row < 2 || own.len() <= row + 2 {
         return alive_near_the_edge(own, others, point);
     }
-    let off = columns_off(own.len());
+    let off = !all_columns(own.len());
     let first = row_inside(own, others, off, row - 2);
     let above = row_inside(own, others, off, row - 1);
     let here = row_inside(own, others, off, row);
@@ -86,12 +86,13 @@ fn next_row(own: &[u64], others: &[u64], there: bool, next: usize) -> NextRow
 
 /// The same as `leaves_all_alive`, for every point.
 #[inline(never)]
+#[tactic(auto, using(crate::proofs::WordLemmas::columns_off))]
 fn alive_near_the_edge(own: &[u64], others: &[u64], point: Point) -> bool
     requires rows { AreOfOneBoard own.now others.now }
     requires on_board { IsOn (length own.now) point }
     ensures { IsTrue result → LeavesAllAlive own.now others.now point }
 {
-    let off = columns_off(own.len());
+    let off = !all_columns(own.len());
     let row = usize::from(point.row);
     let first = row_at(own, others, off, row, 0);
     let above = row_at(own, others, off, row, 1);

@@ -1,7 +1,7 @@
 //! Two sets of points in one list of words, which one filling fills: the low half of a word has a row of the one, the high half has a row of the
 //! other. The board must be small enough that an empty column is left between the halves.
 
-ghost use Rattle.std.specs.Prelude.{◌≡◌, ◌/◌, ◌%◌, ◌^◌, ◌<◌, IsTrue, length};
+ghost use Rattle.std.specs.Prelude.{◌≡◌, ◌<◌, IsTrue, length};
 ghost use Rattle.board_points.specs.declared.points.Point.{Point};
 ghost use Rattle.board_points.specs.Halves.{low_halves, high_halves, AreOnSmallBoard, ArePaired, AreOthersPaired};
 ghost use Rattle.board_points.specs.Point.{IsOn};
@@ -29,31 +29,13 @@ pub fn pair_rows(black: &[u64], white: &[u64], areas: &mut [u64], region: &mut [
     ensures region { AreOthersPaired black.now white.now region.new }
 {
     let columns = all_columns(black.len());
-    let all = paired(columns, columns);
+    let all = columns * HALVES + columns;
     'rows: for row in 0..black.len() {
-        let area = paired(black[row], white[row]);
+        let area = white[row] * HALVES + black[row];
         areas[row] = area;
-        region[row] = columns_left(all, exchanged(area));
+        // the rotation exchanges the halves
+        region[row] = columns_left(all, area.rotate_left(u64::BITS / 2));
     }
-}
-
-/// A word with one word in its low half and another in its high half.
-fn paired(low: u64, high: u64) -> u64
-    requires low { low < 2 ^ 32 }
-    requires high { high < 2 ^ 32 }
-    ensures low { result % 2 ^ 32 ≡ low }
-    ensures high { result / 2 ^ 32 ≡ high }
-{
-    high * HALVES + low
-}
-
-/// A word with its halves exchanged.
-#[tactic(auto, using(crate::proofs::HalvesLemmas::low_rotated, crate::proofs::HalvesLemmas::high_rotated))]
-fn exchanged(word: u64) -> u64
-    ensures low { result % 2 ^ 32 ≡ word / 2 ^ 32 }
-    ensures high { result / 2 ^ 32 ≡ word % 2 ^ 32 }
-{
-    word.rotate_left(u64::BITS / 2)
 }
 
 /// How many points each of two sets has that aren't in the other: first the set in the low halves (Black's area in a score), then the other.
@@ -70,7 +52,7 @@ pub fn count_halves(areas: &[u64]) -> (u32, u32)
     let (mut in_black, mut in_one) = (0, 0);
     'rows: for row in 0..areas.len() {
         // the points that are in one half and not in the other
-        let alone = columns_left(areas[row], exchanged(areas[row]));
+        let alone = columns_left(areas[row], areas[row].rotate_left(u64::BITS / 2));
         in_one += alone.count_ones();
         in_black += (alone % HALVES).count_ones();
     }

@@ -1,6 +1,6 @@
 //! Which points reach a colour (Tromp-Taylor), by a flood from the points of that colour.
 
-ghost use Rattle.std.specs.Prelude.{◌≡◌, ◌⊎◌, ◌*◌, ◌+◌, ◌≤◌, ◌↔◌, IsTrue, length};
+ghost use Rattle.std.specs.Prelude.{◌≡◌, ◌*◌, ◌+◌, ◌≤◌, ◌↔◌, IsTrue, length};
 ghost use Rattle.board_points.specs.declared.points.Point.{Point};
 ghost use Rattle.board_points.specs.Point.{IsOn};
 ghost use Rattle.board_stones.specs.Grid.{cell_at};
@@ -55,20 +55,12 @@ impl Board {
         ensures { Finds (ReachesThrough self.now target from) search.old search.new }
     {
         self.has_all_cells();
+        let own = self.at(from);
         let beside = from.neighbours();
         for to in beside {
-            search.offer(to, self.reaches_through(target, from, to));
+            // a neighbour reaches the colour through the point if that has the colour, or if both have the same colour
+            let through = to.is_on(self.size()) && (own == target || self.at(to) == own);
+            search.offer(to, through);
         }
-    }
-
-    /// Whether a point beside a point that reaches a colour is on the board and reaches the
-    /// colour through that point. It does if that has the colour, or if both have the same colour.
-    fn reaches_through(&self, target: Cell, from: Point, to: Point) -> bool
-        requires { IsOn self.now.side from }
-        ensures { IsTrue result ↔ (IsOn self.now.side to
-            × ((cell_at self.now from ≡ target) ⊎ (cell_at self.now to ≡ cell_at self.now from))) }
-    {
-        let own = self.at(from);
-        to.is_on(self.size()) && (own == target || self.at(to) == own)
     }
 }

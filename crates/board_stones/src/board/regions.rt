@@ -1,9 +1,9 @@
 //! Sets of a board's points by what stands on them, as rows of words. Filling these shows what reaches what.
 
-ghost use Rattle.std.specs.Prelude.{◌≡◌, ◌↔◌, IsTrue, length};
+ghost use Rattle.std.specs.Prelude.{◌≡◌, length};
 ghost use Rattle.board_stones.specs.declared.stones.Cell.TheVariants.{Empty};
 ghost use Rattle.board_stones.specs.Colour.{stone_of};
-ghost use Rattle.board_stones.specs.inner.Groups.{AllReach, is_shut};
+ghost use Rattle.board_stones.specs.inner.Groups.{is_shut};
 ghost use Rattle.board_points.specs.Rows.{AreRowsOf};
 ghost use Rattle.board_stones.specs.inner.Regions.{reaches_through_own};
 
@@ -25,17 +25,6 @@ impl Board {
         area.copy_from_slice(self.rows_of(colour));
         other_points(self.rows_of(colour.opponent()), region);
         fill(area, region);
-    }
-
-    /// Whether all stones of a colour reach empty.
-    #[tactic(auto, using(crate::proofs::LibertyLemmas::reach_where_none_shut, crate::proofs::LibertyLemmas::none_shut))]
-    pub(crate) fn all_reach(&self, colour: Colour) -> bool
-        ensures { IsTrue result ↔ AllReach self.now colour }
-    {
-        let mut words = no_rows();
-        let shut = &mut words[..usize::from(self.size().side())];
-        self.shut_stones(colour, shut);
-        is_none(shut)
     }
 
     /// Writes to `shut` the stones of a colour that don't reach empty.

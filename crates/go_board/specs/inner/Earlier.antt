@@ -9,7 +9,6 @@ use Rattle.go_board.specs.declared.referee.Call.TheVariants.{Stay, Pass, Stone, 
 use Rattle.go_board.specs.declared.referee.Mover.{Mover}
 use Rattle.go_board.specs.declared.referee.Earlier.{Earlier}
 use Rattle.board_stones.specs.Colour.{opponent}
-use Rattle.board_stones.specs.Grid.{Grid}
 use Rattle.board_past.specs.Past.{Held, PastColourings, newest_grid, present_stretch, HaveSide}
 use Rattle.go_board.specs.State.{State, States, starting, oldest_of, is_over}
 use Rattle.go_board.specs.Reason.{must_move, is_occupied}
@@ -86,11 +85,6 @@ states_of past mover turns earlier =
 abbrev pub MayOnlyRepeat : State → Colour → Play → Type 0
 MayOnlyRepeat state colour turn =
     (is_over state ≡ false) × (must_move state.player (opponent colour) ≡ false) × (is_occupied state turn ≡ false)
-
--- the state after a setup that made this colouring
-abbrev pub with_setup : State → Grid → Option Colour → State
-with_setup state grid player =
-    record { colouring = grid; seen = grid ∷ []; player = player; passes = 0; turns = state.turns }
 
 -- how many of the calls made the past grow
 abbrev pub grown : List Earlier → ℕ

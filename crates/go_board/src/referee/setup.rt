@@ -1,10 +1,8 @@
 //! A referee's setups.
 
-ghost use Rattle.std.specs.Prelude.{◌≡◌, ◌<◌, ◌⊎◌, All, IsSome, OnOk, OnErr, Some, fold, length};
+ghost use Rattle.std.specs.Prelude.{◌≡◌, ◌<◌, ◌⊎◌, All, IsSome, OnOk, OnErr, length};
 ghost use Rattle.board_points.specs.Point.{IsRectOn};
 ghost use Rattle.go_board.specs.State.{followed_by, set_up};
-ghost use Rattle.board_stones.specs.Rectangle.{with_rectangle};
-ghost use Rattle.go_board.specs.inner.Earlier.{with_setup};
 
 use crate::referee::{Call, Earlier, Mover, Referee};
 use board_past::{MemoryFault, Past};
@@ -25,26 +23,16 @@ impl<P: Past> Referee<P> {
             ≡ followed_by self.old (set_up self.old.present ops.now player)) }
         ensures err { OnErr result (self.new ≡ self.old) }
     {
-        if !ops.is_empty() {
-            return self.begin_anew(ops, player);
+        if ops.is_empty() {
+            let player = player.unwrap();
+            let present = Earlier {
+                mover: self.mover,
+                call: Call::Stay,
+            };
+            self.earlier.push(present)?;
+            self.mover = Mover::after(self.mover.passes(), player);
+            return Ok(());
         }
-        let player = player.unwrap();
-        let present = Earlier {
-            mover: self.mover,
-            call: Call::Stay,
-        };
-        self.earlier.push(present)?;
-        self.mover = Mover::after(self.mover.passes(), player);
-        Ok(())
-    }
-
-    /// Colours rectangles, and begins a new stretch of the past with the result.
-    fn begin_anew(&mut self, ops: &[SetupOp], player: Option<Colour>) -> Result<(), MemoryFault>
-        requires { All (λ op. IsRectOn self.old.present.colouring.side op.area) ops.now }
-        ensures ok { OnOk result (self.new ≡ followed_by self.old
-            (with_setup self.old.present (fold with_rectangle self.old.present.colouring ops.now) player)) }
-        ensures err { OnErr result (self.new ≡ self.old) }
-    {
         let present = Earlier {
             mover: self.mover,
             call: Call::Setup,

@@ -1,11 +1,9 @@
 //! A referee's turns. The past plays the stones (`Past::play_at_once`, else `Past::play`), and doesn't play one that would repeat a
 //! colouring made since the last setup of stones (positional superko).
 
-ghost use Rattle.std.specs.Prelude.{◌≡◌, ◌≢◌, ◌↔◌, if◌then◌else◌, None, Some, IfNone, IfOk, IfSome, IsErrOf, IsFalse, IsTrue, OnOk, OnErr};
+ghost use Rattle.std.specs.Prelude.{◌≡◌, ◌≢◌, ◌↔◌, None, Some, IfNone, IfSome, IsErrOf, IsFalse, IsTrue, OnOk, OnErr};
 ghost use Rattle.go_board.specs.declared.reason.Reason.{Reason};
-ghost use Rattle.go_board.specs.declared.reason.Reason.TheVariants.{Repeat};
-ghost use Rattle.go_board.specs.declared.referee.plays.Play.TheVariants.{Pass, Stone};
-ghost use Rattle.board_points.specs.Point.{IsOn};
+ghost use Rattle.go_board.specs.declared.referee.plays.Play.TheVariants.{Pass};
 ghost use Rattle.go_board.specs.State.{IsPlayOn, followed_by, turned};
 ghost use Rattle.go_board.specs.Reason.{reason_of};
 ghost use Rattle.go_board.specs.inner.Earlier.{MayOnlyRepeat};
@@ -14,7 +12,6 @@ use crate::fault::TurnFault;
 use crate::reason::Reason;
 use crate::referee::{Call, Earlier, Mover, Play, Referee};
 use board_past::{MemoryFault, Past};
-use board_points::Point;
 use board_stones::{Cell, Colour};
 
 impl<P: Past> Referee<P> {
@@ -49,14 +46,22 @@ impl<P: Past> Referee<P> {
         if let Some(reason) = self.reason_before_repeat(colour, play) {
             return Err(TurnFault::Illegal(reason));
         }
-        match play {
-            Play::Pass => self.play_pass(colour)?,
-            Play::Stone(point) => {
-                if !self.play_stone(colour, point)? {
-                    return Err(TurnFault::Illegal(Reason::Repeat));
-                }
-            }
+        let Play::Stone(point) = play else {
+            return Ok(self.play_pass(colour)?);
+        };
+        if !self.past.play(colour, point)? {
+            return Err(TurnFault::Illegal(Reason::Repeat));
         }
+        let present = Earlier {
+            mover: self.mover,
+            call: Call::Stone,
+        };
+        if self.earlier.push(present).is_err() {
+            self.past.pop();
+            return Err(TurnFault::Memory);
+        }
+        self.mover = Mover::after(0, colour.opponent());
+        self.turns += 1;
         Ok(())
     }
 
@@ -122,33 +127,5 @@ impl<P: Past> Referee<P> {
         self.mover = Mover::after(self.mover.passes() + 1, colour.opponent());
         self.turns += 1;
         Ok(())
-    }
-
-    /// Plays a stone as a player's turn, with its captures or its suicide, unless it repeats a colouring of the present stretch
-    /// (positional superko). Returns whether the turn was taken.
-    fn play_stone(&mut self, colour: Colour, point: Point) -> Result<bool, MemoryFault>
-        requires on_board { IsOn self.old.present.colouring.side point }
-        requires only_repeat { MayOnlyRepeat self.old.present colour (Stone point) }
-        ensures known { IfOk result (λ taken. reason_of self.old.present colour (Stone point)
-            ≡ (if taken then None else Some Repeat)) }
-        ensures allowed { OnErr result (reason_of self.old.present colour (Stone point) ≡ None) }
-        ensures ok { IfOk result (λ taken. self.new
-            ≡ (if taken then followed_by self.old (turned self.old.present colour (Stone point)) else self.old)) }
-        ensures err { OnErr result (self.new ≡ self.old) }
-    {
-        if !self.past.play(colour, point)? {
-            return Ok(false);
-        }
-        let present = Earlier {
-            mover: self.mover,
-            call: Call::Stone,
-        };
-        if self.earlier.push(present).is_err() {
-            self.past.pop();
-            return Err(MemoryFault);
-        }
-        self.mover = Mover::after(0, colour.opponent());
-        self.turns += 1;
-        Ok(true)
     }
 }

@@ -4,7 +4,6 @@ use Rattle.sgf_outline.specs.Tree.{Node}
 use Rattle.go_board.specs.declared.reason.Reason.{Reason}
 use Rattle.go_board.specs.declared.fault.TurnFault.{TurnFault}
 use Rattle.go_board.specs.declared.fault.TurnFault.TheVariants.{Illegal as IllegalTurn, Memory}
-use Rattle.board_stones.specs.declared.setup_op.SetupOp.{SetupOp}
 use Rattle.board_stones.specs.Score.{score_of}
 use Rattle.board_stones.specs.declared.stones.Colour.TheVariants.{Black, White}
 use Rattle.go_board.specs.State.{State, States, followed_by}
@@ -14,8 +13,6 @@ use Rattle.judged_lines.specs.Walk.{LegalNode}
 use Rattle.judged_lines.specs.Verdict.{score_in}
 use Rattle.judged_lines.specs.declared.verdict.Verdict.{Verdict}
 use Rattle.judged_lines.specs.declared.verdict.Verdict.TheVariants.{NotGo, BadSize}
-use Rattle.judged_lines.specs.declared.judging.step.Effect.{Effect}
-use Rattle.judged_lines.specs.declared.judging.step.Effect.TheVariants.{Nothing, Stones as stones_set}
 use Rattle.judged_lines.specs.declared.judging.step.LegalStep.{LegalStep}
 use Rattle.judged_lines.specs.Judgement.{Judgement, unjudged, judged, IsStepOf}
 
@@ -104,11 +101,6 @@ abbrev pub IsStepped : {A : Type 0} → Result State Reason → States → State
 IsStepped step old new (Ok _) = (step ≡ Ok new.present) × (new ≡ followed_by old new.present)
 IsStepped step old new (Err (IllegalTurn reason)) = (step ≡ Err reason) × (new ≡ old)
 IsStepped step old new (Err Memory) = new ≡ old
-
--- the effect of a setup
-abbrev pub setup_effect : List SetupOp → Effect
-setup_effect [] = Nothing
-setup_effect (op ∷ ops) = stones_set
 
 -- the side of the board; 0 if the game isn't judged
 abbrev pub side_in : Judgement → ℕ

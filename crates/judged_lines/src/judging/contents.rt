@@ -70,7 +70,10 @@ pub(crate) fn gathered<'a>(
     ensures left { nodes.new.nodes ≡ nodes.old.nodes }
 {
     operations.clear();
-    let mut contents = Contents::of_front(front);
+    let mut contents = match front {
+        Some((letter, raw)) => Contents::of_lone(letter, raw),
+        None => Contents::nothing(),
+    };
     while let Some(property) = nodes.next_property() {
         contents.take(&property, size, operations)?;
     }
@@ -114,16 +117,6 @@ impl<'a> Contents<'a> {
                 setup: Setup::Nothing,
                 comment: None,
             },
-        }
-    }
-
-    /// What the first property of a node holds, if it was recognized; of other nodes, what no property holds.
-    fn of_front(front: Option<(u8, &'a [u8])>) -> Contents<'a>
-        ensures { (side : ℕ) → IsGathered side (told_property front.entry) [] result }
-    {
-        match front {
-            Some((letter, raw)) => Contents::of_lone(letter, raw),
-            None => Contents::nothing(),
         }
     }
 
@@ -246,10 +239,7 @@ pub(crate) fn move_value(raw: &[u8], size: Size) -> Option<Play>
     if raw.is_empty() || (raw == b"tt".as_slice() && size.side() <= MAX_LETTER_PASS_SIDE) {
         return Some(Play::Pass);
     }
-    match point(raw, size) {
-        Some(point) => Some(Play::Stone(point)),
-        None => None,
-    }
+    Some(Play::Stone(point(raw, size)?))
 }
 
 /// The player that a value of PL names, `B` or `W`; None for any other value.

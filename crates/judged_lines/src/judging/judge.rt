@@ -2,12 +2,11 @@
 //! once that was asked for. Many lines may end on one board, as lines that differ only in a pass or in an empty node do. Its score isn't
 //! worked out again.
 
-ghost use Rattle.std.specs.Prelude.{◌≡◌, ◌+◌, ◌<◌, ◌≤◌, ◌⊎◌, IsFalse, IsTrue, OnOk, OnErr, IfOk, IfSome, Some, option_copied};
+ghost use Rattle.std.specs.Prelude.{◌≡◌, ◌+◌, ◌<◌, IsFalse, IsTrue, OnOk, OnErr, IfOk, Some, option_copied};
 ghost use Rattle.sgf_outline.specs.Tree.{Node};
-ghost use Rattle.go_board.specs.State.{HadSameBoardSince, begun};
-ghost use Rattle.judged_lines.specs.JudgedGames.{game_kind, board};
+ghost use Rattle.go_board.specs.State.{begun};
+ghost use Rattle.judged_lines.specs.JudgedGames.{game_kind};
 ghost use Rattle.judged_lines.specs.inner.Gathered.{ComesAs};
-ghost use Rattle.judged_lines.specs.inner.Judging.{IsScoreAt};
 
 use crate::judging::root::board_size;
 use crate::judging::step::{LegalStep, place_of, take_step};
@@ -73,23 +72,16 @@ impl Judge {
         ensures plays { self.new.plays ≡ self.old.plays }
         ensures unchanged { OnErr result (self.new ≡ self.old) }
     {
-        match board_size(root) {
-            Ok(size) => self.begin_on(size),
+        let size = match board_size(root) {
+            Ok(size) => size,
             Err(verdict) => {
                 self.game = None;
                 self.ended = Some(verdict);
-                Ok(())
+                return Ok(());
             }
-        }
-    }
-
-    /// Begins a game on a board of that size. If there is a game already, it begins anew in place.
-    fn begin_on(&mut self, size: Size) -> Result<(), MemoryFault>
-        ensures begun { OnOk result (self.new.judgement ≡ begun_game (board size)) }
-        ensures plays { self.new.plays ≡ self.old.plays }
-        ensures unchanged { OnErr result (self.new ≡ self.old) }
-    {
+        };
         match &mut self.game {
+            // it begins anew in place
             Some(game) => {
                 let Ok(()) = game.reset(size) else {
                     return Err(MemoryFault);
@@ -161,7 +153,13 @@ impl Judge {
         if let Some(game) = &mut self.game {
             if count <= game.depth() {
                 self.ended = None;
-                self.score = score_back(self.score, self.scored, game, count);
+                // The score stays if the board did. Usually the newest node changed it.
+                if self.score.is_some()
+                    && count < self.scored
+                    && !(game.newest_left_board() && game.left_board_since(count))
+                {
+                    self.score = None;
+                }
                 self.scored = self.scored.min(count);
                 'undo: while count < game.depth() {
                     game.undo();
@@ -221,7 +219,7 @@ impl Judge {
 }
 
 /// Puts the referee of a game on a board of that size into `slot`. After a refusal of memory `slot` is unchanged.
-// Not inlined: whole boards stand on its stack, and each call of `begin_on` would set room for them to zeros.
+// Not inlined: whole boards stand on its stack, and each call of `begin` would set room for them to zeros.
 #[inline(never)]
 fn put_game(
     alloc: Global,
@@ -237,27 +235,4 @@ fn put_game(
     };
     *slot = Some(game);
     Ok(())
-}
-
-/// What is still known of the score after going back to the first `count` nodes: `score`, if `scored` is at most `count`, or if the nodes
-/// after these left the board alone. `score` is that of the board after the first `scored` nodes, if it is known.
-#[inline(always)]
-fn score_back(
-    score: Option<(u32, u32)>,
-    scored: usize,
-    referee: &Referee<PrintPast>,
-    count: usize,
-) -> Option<(u32, u32)>
-    requires { IsScoreAt referee.now scored score }
-    ensures { IfSome result (λ kept. (score ≡ Some kept) × ((scored ≤ count) ⊎ HadSameBoardSince referee.now count)) }
-{
-    if score.is_none() || scored <= count {
-        return score;
-    }
-    // usually the newest node changed the board
-    if referee.newest_left_board() && referee.left_board_since(count) {
-        score
-    } else {
-        None
-    }
 }

@@ -56,7 +56,7 @@ impl StepKeeper for () {
 /// Judges line after line. Of the last one it keeps the judgement and the verdict, and its keeper was told the steps.
 #[derive(Drop)]
 pub struct Judged<K> {
-    judge: Judge,
+    pub(crate) judge: Judge,
     /// The verdict of the last line; `NotGo` before the first line.
     pub verdict: Verdict,
     /// It was told the steps.
@@ -73,13 +73,6 @@ impl<K: StepKeeper> Judged<K> {
             verdict: Verdict::NotGo,
             keeper,
         }
-    }
-
-    /// Sets the number of nodes that were played to 0.
-    pub(crate) fn count_anew(&mut self)
-        ensures { self.new.judge.plays ≡ 0 }
-    {
-        self.judge.count_anew();
     }
 }
 

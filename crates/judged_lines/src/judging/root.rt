@@ -2,7 +2,7 @@
 
 ghost use Rattle.std.specs.Prelude.{◌≡◌, codes, option_copied};
 ghost use Rattle.judged_lines.specs.NodeContents.{first_value};
-ghost use Rattle.judged_lines.specs.JudgedGames.{is_go as is_go_rule, side_of, game_kind};
+ghost use Rattle.judged_lines.specs.JudgedGames.{side_of, game_kind};
 ghost use Rattle.judged_lines.specs.inner.Judging.{size_said};
 
 use crate::verdict::Verdict;
@@ -13,18 +13,18 @@ use sgf_tree::{NodeRef, number};
 const USUAL_SIDE: i64 = 19;
 
 /// Returns the size of the board of a root's game. If the game isn't judged, returns the verdict of
-/// each of its lines. If the game isn't Go, this is `NotGo`, even if its size is faulty.
+/// each of its lines. The game is Go if it has no GM, or if the value is the number 1. If it isn't Go, the verdict is
+/// `NotGo`, even if its size is faulty.
 pub(crate) fn board_size(root: &NodeRef<'_, '_>) -> Result<Size, Verdict>
     ensures { result ≡ size_said (game_kind root.now.properties) }
 {
     let (game, side) = game_and_side(root);
-    if !is_go(game) {
-        return Err(Verdict::NotGo);
+    if let Some(raw) = game {
+        if number(raw) != Some(1) {
+            return Err(Verdict::NotGo);
+        }
     }
-    match size(side) {
-        Some(size) => Ok(size),
-        None => Err(Verdict::BadSize),
-    }
+    size(side).ok_or(Verdict::BadSize)
 }
 
 /// The first values of a root's first GM and of its first SZ. Both are found in one pass over the properties, which ends at the later one.
@@ -45,16 +45,6 @@ fn game_and_side<'a>(root: &NodeRef<'_, 'a>) -> (Option<&'a [u8]>, Option<&'a [u
         }
     }
     (game, side)
-}
-
-/// Whether the game is Go by its GM: it has no GM, or the value is the number 1.
-fn is_go(game: Option<&[u8]>) -> bool
-    ensures { result ≡ is_go_rule (option_copied game.entry) }
-{
-    match game {
-        None => true,
-        Some(raw) => number(raw) == Some(1),
-    }
 }
 
 /// The size that SZ gives: 19 if there is no SZ, or its value if this is the side of a board. None for any other value.

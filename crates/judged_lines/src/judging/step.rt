@@ -1,14 +1,11 @@
 //! A node's step on a referee.
 
-ghost use Rattle.std.specs.Prelude.{◌≡◌, ◌<◌, ◌⊎◌, ◌∷◌, ◌++◌, [], List, length, All, IfOk, IsSome, Ok};
+ghost use Rattle.std.specs.Prelude.{◌≡◌, ◌++◌, List, IfOk};
 ghost use Rattle.sgf_outline.specs.Tree.{Node, Property, told_property};
-ghost use Rattle.board_points.specs.Point.{IsRectOn};
-ghost use Rattle.go_board.specs.State.{set_up as set_up_rule};
-ghost use Rattle.judged_lines.specs.NodeValues.{move_value as move_value_rule};
-ghost use Rattle.judged_lines.specs.Step.{step, move_step};
+ghost use Rattle.judged_lines.specs.Step.{step};
 ghost use Rattle.judged_lines.specs.inner.Gathered.{IsGathered, ComesAs};
-ghost use Rattle.judged_lines.specs.inner.Judging.{IsStepped, setup_effect};
-ghost use Rattle.judged_lines.specs.Judgement.{IsStepOf, IsEffectBy};
+ghost use Rattle.judged_lines.specs.inner.Judging.{IsStepped};
+ghost use Rattle.judged_lines.specs.Judgement.{IsStepOf};
 
 use crate::judging::contents::{Contents, Moves, Setup, gathered, move_value};
 use go_board::{Colour, Past, Play, Reason, Referee, SetupOp, TurnFault};
@@ -96,9 +93,9 @@ fn take_any_step<'a, P: Past>(
 }
 
 /// Takes the step of a node with these contents. `operations` has the operations of the node's stones. The first reason that holds is
-/// given, in this order: `mixed` (a move and a setup, even a faulty one), `two-moves`, `bad-setup`, and then those of `take_move`. A
-/// `bad-setup` was found by `gathered`. Of the arms only the last must stay last: those of `two-moves` and `bad-setup` are for nodes that
-/// aren't mixed.
+/// given, in this order: `mixed` (a move and a setup, even a faulty one), `two-moves`, `bad-setup`, which `gathered` found,
+/// `bad-point`, and then those of `Referee::turn`. Of the arms only the last must stay last: those of `two-moves` and `bad-setup` are for
+/// nodes that aren't mixed.
 #[inline(always)]
 fn take_contents<'a, P: Past>(
     referee: &mut Referee<P>,
@@ -116,9 +113,22 @@ fn take_contents<'a, P: Past>(
             referee.stay()?;
             Effect::Nothing
         }
-        (Moves::Nothing, Setup::Meant(player)) => set_up(referee, operations, player)?,
+        (Moves::Nothing, Setup::Meant(player)) => {
+            referee.setup(operations, player)?;
+            if operations.is_empty() {
+                Effect::Nothing
+            } else {
+                Effect::Stones
+            }
+        }
         (Moves::Nothing, Setup::Faulty) => return Err(TurnFault::Illegal(Reason::BadSetup)),
-        (Moves::One(colour, raw), Setup::Nothing) => take_move(referee, colour, raw)?,
+        (Moves::One(colour, raw), Setup::Nothing) => {
+            let Some(play) = move_value(raw, referee.board().size()) else {
+                return Err(TurnFault::Illegal(Reason::BadPoint));
+            };
+            referee.turn(colour, play)?;
+            Effect::Play(colour, play)
+        }
         (Moves::Several, Setup::Nothing) => return Err(TurnFault::Illegal(Reason::TwoMoves)),
         (_, _) => return Err(TurnFault::Illegal(Reason::Mixed)),
     };
@@ -126,44 +136,4 @@ fn take_contents<'a, P: Past>(
         effect,
         comment: contents.comment,
     })
-}
-
-/// Sets up stones, or only the player if there are no stones.
-fn set_up<P: Past>(
-    referee: &mut Referee<P>,
-    operations: &[SetupOp],
-    player: Option<Colour>,
-) -> Result<Effect, TurnFault>
-    requires areas { All (λ op. IsRectOn referee.old.present.colouring.side op.area) operations.now }
-    requires something { (0 < length operations.now) ⊎ IsSome player }
-    ensures stepped { IsStepped (Ok (set_up_rule referee.old.present operations.now player)) referee.old referee.new result }
-    ensures effect { IfOk result (λ effect. effect ≡ setup_effect operations.now) }
-{
-    referee.setup(operations, player)?;
-    if operations.is_empty() {
-        Ok(Effect::Nothing)
-    } else {
-        Ok(Effect::Stones)
-    }
-}
-
-/// Takes the turn of a move.
-#[inline(always)]
-fn take_move<P: Past>(
-    referee: &mut Referee<P>,
-    colour: Colour,
-    raw: &[u8],
-) -> Result<Effect, TurnFault>
-    ensures stepped { IsStepped (move_step referee.old.present colour (move_value_rule raw.now referee.old.present.colouring.side))
-        referee.old referee.new result }
-    ensures effect { IfOk result (IsEffectBy referee.old.present.colouring.side (record { player = colour; raw = raw.now } ∷ []) []) }
-{
-    let size = referee.board().size();
-    let Some(play) = move_value(raw, size) else {
-        return Err(TurnFault::Illegal(Reason::BadPoint));
-    };
-    match referee.turn(colour, play) {
-        Ok(()) => Ok(Effect::Play(colour, play)),
-        Err(fault) => Err(fault),
-    }
 }

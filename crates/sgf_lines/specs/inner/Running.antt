@@ -1,5 +1,5 @@
 -- What the parts of a run do.
-use Rattle.std.specs.Prelude.{◌≡◌, ℕ, ◌<◌, ◌≤◌, ◌+◌, ◌-◌, ◌^◌, List, length, drop, take, Option, Some, Result, Ok, Err, ⊤}
+use Rattle.std.specs.Prelude.{◌≡◌, ℕ, ◌<◌, ◌≤◌, ◌+◌, ◌-◌, ◌^◌, List, length, drop, take, Option, Some, Result, Ok, Err}
 use Rattle.std.specs.Io.KnownBytes.{Appends, Consumes}
 use Rattle.sgf_outline.specs.FileOrder.{PlacesRise}
 use Rattle.sgf_outline.specs.Tree.{Games, node_count}
@@ -40,11 +40,6 @@ pub record HasRead (start now : SourceState) (text : List ℕ) : Type 0 where
 pub record HasReadAll (start now : SourceState) (text : List ℕ) : Type 0 where
   pub read : HasRead start now text
   pub whole : IsWhole text now.to_come
-
--- what the result of asking a source once says of all that it has given since `start`
-abbrev pub AnswersSome : SourceState → SourceState → List ℕ → Result ℕ RunFault → Type 0
-AnswersSome start now text (Ok count) = HasRead start now text × (count ≡ 0 → IsWhole text now.to_come)
-AnswersSome start now text (Err fault) = IsReading {A = ⊤} start now text (Err fault)
 
 -- where a cursor stands before the page, or why there is no page
 abbrev pub IsStart : Games → Option ℕ → Result SequencesState RunFault → Type 0

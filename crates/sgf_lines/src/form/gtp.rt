@@ -49,7 +49,8 @@ impl LineForm for GtpForm {
         row: &mut TextRow,
         sink: &mut T,
     ) -> Result<(), SinkFault> {
-        row.lay_out_comment(cursor, self.judged.verdict);
+        row.lay_out(cursor, self.judged.verdict);
+        row.put(b"# ");
         put_all(row.text(), sink)?;
         put_all(self.judged.keeper.text(), sink)?;
         put_all(b"\n", sink)

@@ -4,7 +4,6 @@
 ghost use Rattle.std.specs.Prelude.{◌≡◌, ◌<◌, ◌≤◌, ◌+◌, Some, [], ◌++◌, length, codes, decimal};
 ghost use Rattle.tree_lines.specs.Lines.{Line};
 ghost use Rattle.sgf_lines.specs.ListRow.{verdict_text};
-ghost use Rattle.sgf_lines.specs.Script.{comment_row};
 ghost use Rattle.tree_lines.specs.Following.{line_before};
 
 use itoa::write_digits;
@@ -52,15 +51,6 @@ impl TextRow {
         self.put_number(cursor.game() as u64);
         self.put(b" ");
         self.put_number(cursor.place());
-    }
-
-    /// Becomes the same row as a comment, with a line feed.
-    pub(crate) fn lay_out_comment(&mut self, cursor: &SequenceCursor<'_, '_>, verdict: Verdict)
-        requires { 0 < length cursor.now.ends }
-        ensures { (line : Line) → line_before cursor.now.at ≡ Some line → built_text self.new ≡ comment_row (row_of line verdict) }
-    {
-        self.lay_out(cursor, verdict);
-        self.put(b"# ");
     }
 
     /// Puts bytes before the text.

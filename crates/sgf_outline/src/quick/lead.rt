@@ -2,9 +2,9 @@
 //! begins with a lone property. Moves are recognized by one comparison of sixteen bytes, each with the least and the greatest byte that may
 //! stand in its place.
 
-ghost use Rattle.std.specs.Prelude.{◌≡◌, ◌≢◌, ◌≤◌, ◌<◌, ◌+◌, ◌%◌, length, All, IsTrue, IfSome};
+ghost use Rattle.std.specs.Prelude.{◌≡◌, ◌≤◌, ◌<◌, ◌+◌, ◌%◌, length, IsTrue, IfSome};
 ghost use Rattle.sgf_outline.specs.Move.{IsMoveNode, EndsNode};
-ghost use Rattle.sgf_outline.specs.inner.Lead.{IsLedNode, IsEmptyNode, IsLoneFront, AreOthers, IsOtherProperty};
+ghost use Rattle.sgf_outline.specs.inner.Lead.{IsLedNode, IsEmptyNode, IsLoneFront, IsOtherProperty};
 
 use crate::quick::properties::near_property_close;
 use sgf_properties::{NEAR, begins_value, is_two_ordinary, skip_white_space};
@@ -16,7 +16,7 @@ pub const TWO_MOVES: u64 = 65535;
 /// Where the node ends that the text begins with, after any white space, if it is written like `;B[pd]BL[921.325]OB[3]`: a move, and then
 /// perhaps short properties whose names aren't among `names`.
 #[inline(always)]
-#[tactic(auto, using(crate::proofs::Leading::others_nothing))]
+#[tactic(auto, using(crate::proofs::Leading::others_nothing, crate::proofs::Leading::others_none, crate::proofs::Leading::others_more, crate::proofs::Leading::others_end))]
 pub(crate) fn led_end(text: &[u8], names: &[[u8; 2]]) -> Option<usize>
     ensures { IfSome result (IsLedNode names.now text.now) }
 {
@@ -26,7 +26,19 @@ pub(crate) fn led_end(text: &[u8], names: &[[u8; 2]]) -> Option<usize>
     if b' ' < text[6] && text[6] < b'A' {
         return Some(6);
     }
-    others_end(text, 6, names)
+    let mut end = 6;
+    'properties: while let Some(next) = other_property_end(text, end, names) {
+        end = next;
+        if b' ' < text[end] && text[end] < b'A' {
+            return Some(end);
+        }
+    }
+    let next = skip_white_space(text, end);
+    if next < text.len() && text[next] < b'A' {
+        Some(next)
+    } else {
+        None
+    }
 }
 
 /// Whether the text begins with a node without properties, and the next node or a parenthesis follows at once.
@@ -74,28 +86,6 @@ pub fn moves_in_place(text: &[u8], at: usize) -> u64
         .to_bitmask()
 }
 
-/// The end of a node, after any white space, if such short properties stand from `at` up to it.
-#[inline(always)]
-#[tactic(auto, using(crate::proofs::Leading::others_none, crate::proofs::Leading::others_more, crate::proofs::Leading::others_end))]
-fn others_end(text: &[u8], at: usize, names: &[[u8; 2]]) -> Option<usize>
-    requires { at ≤ length text.now }
-    ensures { IfSome result (AreOthers names.now text.now at) }
-{
-    let mut end = at;
-    'properties: while let Some(next) = other_property_end(text, end, names) {
-        end = next;
-        if b' ' < text[end] && text[end] < b'A' {
-            return Some(end);
-        }
-    }
-    let next = skip_white_space(text, end);
-    if next < text.len() && text[next] < b'A' {
-        Some(next)
-    } else {
-        None
-    }
-}
-
 /// The end of the first value of the property whose name begins at `start`, if the name is two capitals and isn't among `names`, if this
 /// value is short, and if the text goes on.
 #[inline(always)]
@@ -105,21 +95,11 @@ fn other_property_end(text: &[u8], start: usize, names: &[[u8; 2]]) -> Option<us
     ensures goes_on { IfSome result (λ end. end < length text.now) }
 {
     let close = near_property_close(text, start)?;
-    if !is_other([text[start], text[start + 1]], names) {
-        return None;
-    }
-    Some(close + 1)
-}
-
-/// Whether a name isn't among `names`.
-#[inline(always)]
-fn is_other(name: [u8; 2], names: &[[u8; 2]]) -> bool
-    ensures { IsTrue result → All (λ other. name ≢ other) names.now }
-{
-    for other in names {
-        if name == *other {
-            return false;
+    let name = [text[start], text[start + 1]];
+    for known in names {
+        if name == *known {
+            return None;
         }
     }
-    true
+    Some(close + 1)
 }

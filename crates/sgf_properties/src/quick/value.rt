@@ -1,10 +1,9 @@
 //! Where values end, in place of the searches of `value`: short values without an escape near their end, long ones whose lengths were kept
 //! when they were read, and values such as `[pd]`, by tens of which stones are set up.
 
-ghost use Rattle.std.specs.Prelude.{◌<◌, ◌≤◌, ◌+◌, length, IsTrue, IfSome, MatchOption};
+ghost use Rattle.std.specs.Prelude.{◌<◌, ◌≤◌, ◌+◌, length, IsTrue, IfSome};
 ghost use Rattle.sgf_properties.specs.Offsets.{IsValueEnd, IsTwoOrdinary, ArePoints, IsBracket};
 ghost use Rattle.sgf_properties.specs.KeptLengths.{AreKeptLengths};
-ghost use Rattle.sgf_properties.specs.inner.Searches.{HasNoBracket, IsNextBracket};
 
 use crate::value::LongValue;
 use std::simd::prelude::*;
@@ -27,6 +26,7 @@ pub fn short_value_end(text: &[u8], at: usize) -> Option<usize>
 
 /// The same offset, where at least `NEAR` bytes are left from `at` on.
 #[inline(always)]
+#[tactic(auto, using(crate::proofs::NearBrackets::lowest_found))]
 pub fn near_value_end(text: &[u8], at: usize) -> Option<usize>
     requires { at + NEAR ≤ length text.now }
     ensures { IfSome result (IsValueEnd text.now at) }
@@ -34,7 +34,14 @@ pub fn near_value_end(text: &[u8], at: usize) -> Option<usize>
     if is_two_ordinary(text, at) {
         return Some(at + 2);
     }
-    let bracket = near_bracket(text, at)?;
+    // The first `]` among the `NEAR` bytes, all compared at once.
+    let found = u8x16::from_slice(&text[at..])
+        .simd_eq(u8x16::splat(b']'))
+        .to_bitmask();
+    if found == 0 {
+        return None;
+    }
+    let bracket = at + found.trailing_zeros() as usize;
     if bracket != at && text[bracket - 1] == b'\\' {
         return None;
     }
@@ -51,22 +58,6 @@ pub fn is_two_ordinary(text: &[u8], at: usize) -> bool
         && text[at] != b'\\'
         && text[at + 1] != b']'
         && text[at + 1] != b'\\'
-}
-
-/// The first `]` among the `NEAR` bytes at `at`, all compared at once.
-#[tactic(auto, using(crate::proofs::NearBrackets::none_found, crate::proofs::NearBrackets::lowest_found))]
-fn near_bracket(text: &[u8], at: usize) -> Option<usize>
-    requires { at + NEAR ≤ length text.now }
-    ensures { MatchOption result (HasNoBracket text.now at (at + NEAR)) (λ end. IsNextBracket text.now at end) }
-{
-    let found = u8x16::from_slice(&text[at..])
-        .simd_eq(u8x16::splat(b']'))
-        .to_bitmask();
-    if found == 0 {
-        None
-    } else {
-        Some(at + found.trailing_zeros() as usize)
-    }
 }
 
 /// The offset of the `]` that ends the raw value at `at`, if the value's length was kept.

@@ -22,7 +22,7 @@ is_bare (inmost ∷ outer) = are_none inmost.below
 
 -- the tally counts the games of the stack
 pub record IsTallyOf (stack : Stack) (tally : Tally) : Type 0 where
-  pub games_counted : tally.games ≡ game_count stack.closed
-  pub nodes_counted : tally.nodes ≡ unclosed_count stack.closed stack.unclosed
-  pub leaves_counted : tally.leaves ≡ unclosed_leaves stack.closed stack.unclosed
+  pub games_counted : tally.extent.games ≡ game_count stack.closed
+  pub nodes_counted : tally.extent.nodes ≡ unclosed_count stack.closed stack.unclosed
+  pub leaves_counted : tally.extent.leaves ≡ unclosed_leaves stack.closed stack.unclosed
   pub bare : tally.is_bare ≡ is_bare stack.unclosed

@@ -7,7 +7,7 @@ use Rattle.sgf_outline.specs.Machine.{UnclosedGame, Stack, MachineState, opened,
 use Rattle.sgf_outline.specs.Unclosed.{whole, unclosed_count}
 use Rattle.sgf_outline.specs.OwnNodes.{Coming, nothing, with_game}
 use Rattle.sgf_tree.specs.inner.Progress.{ComesTo, IsTrueFault}
-use Rattle.sgf_tree.specs.declared.reader.fault.PartFault.{PartFault}
+use Rattle.sgf_tree.specs.declared.fault.ReadFault.{ReadFault}
 
 -- the number of the last own node of the innermost unclosed game
 abbrev pub tip : Games → List UnclosedGame → Option ℕ
@@ -68,7 +68,7 @@ ReadsOwnNodes kept keeps text at end =
     (stack : Stack) → ComesTo text at (opened stack) → kept stack nothing → unclosed_count stack.closed stack.unclosed < at → IsGameRead keeps text end stack
 
 -- if `at` is just after a `(`, the fault is the first one of the text
-abbrev pub IsFaultInOpened : (Stack → Coming → Type 0) → List ℕ → ℕ → PartFault → Type 0
+abbrev pub IsFaultInOpened : (Stack → Coming → Type 0) → List ℕ → ℕ → ReadFault → Type 0
 IsFaultInOpened kept text at fault = (stack : Stack) → ComesTo text at (opened stack) → kept stack nothing → IsTrueFault text fault
 
 -- the text spells a collection, which the visitor keeps

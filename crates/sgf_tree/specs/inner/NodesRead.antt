@@ -12,7 +12,7 @@ use Rattle.sgf_tree.specs.inner.PropertiesRead.{StandsAfterNode}
 use Rattle.sgf_outline.specs.Unclosed.{unclosed_count}
 use Rattle.sgf_outline.specs.OwnNodes.{Coming, coming_of, AreOwnNodes, IsCopied}
 use Rattle.sgf_outline.specs.declared.limit.TheConstants.{MAX_LENGTH}
-use Rattle.sgf_tree.specs.declared.reader.fault.PartFault.{PartFault}
+use Rattle.sgf_tree.specs.declared.fault.ReadFault.{ReadFault}
 use Rattle.sgf_tree.specs.declared.reader.own_nodes.NodesRead.{NodesRead}
 
 -- nodes of a game were read up to `end`: the last one is `whole`, and `last` is the game so far
@@ -56,5 +56,5 @@ pub record AreNodesRead (kept keeps : Stack → Coming → Type 0) (text : List 
   pub more : (at : ℕ) (stack : Stack) → AreOwnRead kept text at stack before → AreOwnRead keeps text at stack after
 
 -- if these nodes were read before, the fault is the first one of the text
-abbrev pub IsFaultInNodes : (Stack → Coming → Type 0) → List ℕ → NodesRead → PartFault → Type 0
+abbrev pub IsFaultInNodes : (Stack → Coming → Type 0) → List ℕ → NodesRead → ReadFault → Type 0
 IsFaultInNodes kept text before fault = (at : ℕ) (stack : Stack) → AreOwnRead kept text at stack before → IsTrueFault text fault

@@ -12,7 +12,7 @@ use Rattle.sgf_properties.specs.Offsets.{IsSpan, IsBracket, IsValueEnd, ArePoint
 use Rattle.sgf_properties.specs.KeptLengths.{AreKeptLengths}
 use Rattle.sgf_properties.specs.declared.value.LongValue.{LongValue}
 use Rattle.sgf_outline.specs.declared.limit.TheConstants.{MAX_LENGTH}
-use Rattle.sgf_tree.specs.declared.reader.fault.PartFault.{PartFault}
+use Rattle.sgf_tree.specs.declared.fault.ReadFault.{ReadFault}
 use Rattle.sgf_tree.specs.declared.reader.properties.PartRead.{PartRead}
 
 -- after any white space at `end` comes a byte that doesn't begin a value
@@ -26,17 +26,14 @@ pub record MayReadValue (text : List ℕ) (at : ℕ) (long : List LongValue) : T
   pub within : at ≤ length text
   pub kept : AreKeptLengths text long
 
--- The raw value that begins at `at` was read: its `]` is at `end`, and the lengths that are kept then are right.
-pub record IsValueRead (text : List ℕ) (at : ℕ) (long : List LongValue) (end : ℕ) : Type 0 where
-  pub ends : IsValueEnd text at end
-  pub kept : AreKeptLengths text long
-
 -- Values were read, of which the first begins with the `[` at `at`. The `]` of the last one is at `close`, and all before it are like `[pd]`.
+-- The lengths that are kept then are right.
 pub record AreValuesRead (text : List ℕ) (at : ℕ) (long : List LongValue) (close : ℕ) : Type 0 where
   pub last : ℕ
   pub points : ArePoints text at last
   pub stands : IsBracket text last
-  pub value : IsValueRead text (last + 1) long close
+  pub ends : IsValueEnd text (last + 1) close
+  pub kept : AreKeptLengths text long
 
 -- A property begins where the part before it ends, which is not before the end of its segment. The text isn't too long.
 pub record BeginsProperty (text : List ℕ) (before : PartRead) : Type 0 where
@@ -93,22 +90,22 @@ pub record ArePropertiesRead (Wrote : List ℕ → Type 0) (text : List ℕ) (at
       → (properties : List Property) × StandsAfterNode text end (with_properties node properties) × Wrote (flat_map property_text properties)
 
 -- if `at` is just after the `[` of a value, the fault is the first one of the text
-abbrev pub IsFaultInValue : List ℕ → ℕ → PartFault → Type 0
+abbrev pub IsFaultInValue : List ℕ → ℕ → ReadFault → Type 0
 IsFaultInValue text at fault =
     (node : Started) (name : List ℕ) (before : List (List ℕ)) → ComesTo text at (in_value node name before []) → IsTrueFault text fault
 
 -- the same of a value after values like `[pd]` that begin at `at`, perhaps none
-pub record IsFaultInValues (text : List ℕ) (at : ℕ) (fault : PartFault) : Type 0 where
+pub record IsFaultInValues (text : List ℕ) (at : ℕ) (fault : ReadFault) : Type 0 where
   pub last : ℕ
   pub points : ArePoints text at last
   pub stands : IsBracket text last
   pub in_value : IsFaultInValue text (last + 1) fault
 
 -- the same, if a name began with the letter at `start`
-abbrev pub IsFaultInProperty : List ℕ → ℕ → PartFault → Type 0
+abbrev pub IsFaultInProperty : List ℕ → ℕ → ReadFault → Type 0
 IsFaultInProperty text start fault =
     (node : Started) → ComesTo text (start + 1) (in_name node (slice_index text start ∷ [])) → IsTrueFault text fault
 
 -- the same, if `at` is in a node that has no properties yet
-abbrev pub IsFaultInNode : List ℕ → ℕ → PartFault → Type 0
+abbrev pub IsFaultInNode : List ℕ → ℕ → ReadFault → Type 0
 IsFaultInNode text at fault = (node : Started) → node.properties ≡ [] → ComesTo text at (in_node node) → IsTrueFault text fault

@@ -1,8 +1,7 @@
 //! Properties with a name of one or two letters and a short value, in place of `read_properties` and `read_property` of `reader::properties`.
 
 ghost use Rattle.std.specs.Prelude.{◌≡◌, ◌<◌, ◌≤◌, ◌+◌, length, slice_index, IsTrue, IfSome};
-ghost use Rattle.sgf_outline.specs.Spelling.{is_white_space, is_upper};
-ghost use Rattle.sgf_properties.specs.Offsets.{IsSpan};
+ghost use Rattle.sgf_outline.specs.Spelling.{is_upper};
 ghost use Rattle.sgf_outline.specs.Move.{IsMove};
 ghost use Rattle.sgf_tree.specs.inner.PropertiesRead.{AreValuesEnded, StandsIn, IsPropertyRead, ArePropertiesRead};
 
@@ -109,22 +108,15 @@ fn property_end(text: &[u8], end: usize) -> Option<usize>
     ensures within { IfSome result (λ next. next < length text.now) }
     ensures ended { IfSome result (AreValuesEnded text.now end) }
 {
-    let next = skip_line_end(text, end);
+    // Usually there is no white space, or only a line feed, as in texts with a move on each line.
+    let next = if end + 1 < text.len() && text[end] == b'\n' && b' ' < text[end + 1] {
+        end + 1
+    } else {
+        skip_white_space(text, end)
+    };
     if next < text.len() && text[next] != b'[' {
         Some(next)
     } else {
         None
     }
-}
-
-/// The end of the white space at `at`. Usually there is none, or only a line feed, as in texts with a move on each line.
-#[inline(always)]
-fn skip_line_end(text: &[u8], at: usize) -> usize
-    requires { at ≤ length text.now }
-    ensures { IsSpan is_white_space text.now at result }
-{
-    if at + 1 < text.len() && text[at] == b'\n' && b' ' < text[at + 1] {
-        return at + 1;
-    }
-    skip_white_space(text, at)
 }

@@ -4,12 +4,12 @@ ghost use Rattle.std.specs.Prelude.{IfOk, IfErr};
 ghost use Rattle.sgf_tree.specs.inner.Progress.{IsTrueFault};
 ghost use Rattle.sgf_tree.specs.inner.GamesRead.{IsByteOrderMarkRead};
 
-use crate::reader::fault::PartFault;
+use crate::fault::ReadFault;
 
 /// The end of the UTF-8 byte order mark (EF BB BF) at the start of the text; 0 if the text has none. `NotSgf` if the
 /// text begins with EF, but not with the mark.
 #[tactic(auto, using(crate::proofs::ByteOrderMark::mark_none, crate::proofs::ByteOrderMark::mark_read, crate::proofs::ByteOrderMark::first_faulty, crate::proofs::ByteOrderMark::second_faulty))]
-pub(crate) fn byte_order_mark_end(text: &[u8]) -> Result<usize, PartFault>
+pub(crate) fn byte_order_mark_end(text: &[u8]) -> Result<usize, ReadFault>
     ensures read { IfOk result (IsByteOrderMarkRead text.now) }
     ensures fault { IfErr result (IsTrueFault text.now) }
 {
@@ -17,10 +17,10 @@ pub(crate) fn byte_order_mark_end(text: &[u8]) -> Result<usize, PartFault>
         return Ok(0);
     }
     if text.len() < 2 || text[1] != 0xBB {
-        return Err(PartFault::NotSgf(1));
+        return Err(ReadFault::NotSgf { at: 1 });
     }
     if text.len() < 3 || text[2] != 0xBF {
-        return Err(PartFault::NotSgf(2));
+        return Err(ReadFault::NotSgf { at: 2 });
     }
     Ok(3)
 }

@@ -10,11 +10,11 @@ ghost use Rattle.sgf_outline.specs.Unclosed.{unclosed_count};
 ghost use Rattle.sgf_tree.specs.inner.GamesRead.{StandsBetween, IsFaultInOpened, ReadsOwnNodes, ReadsWhole};
 ghost use Rattle.sgf_tree.specs.inner.NodesRead.{BeginsNode, AreNodesRead, IsFaultInNodes};
 
+use crate::fault::ReadFault;
 use crate::quick::nodes::near_nodes;
-use crate::reader::fault::PartFault;
 use crate::reader::own_nodes::{NodesRead, take_node};
 use crate::reader::properties::read_properties;
-use sgf_outline::{MAX_LENGTH, OwnNodes, Visitor};
+use sgf_outline::{MAX_LENGTH, OwnNodes, Segment, Visitor};
 use sgf_properties::{LongValue, skip_white_space, stands_at};
 
 /// Reads all games, and tells `visitor` what comes: Collection = GameTree { GameTree }, and GameTree = `(` Sequence { GameTree } `)`. The
@@ -24,7 +24,7 @@ pub(crate) fn read_games<K: Visitor>(
     at: usize,
     visitor: &mut K,
     long: &mut Vec<LongValue>,
-) -> Result<(), PartFault>
+) -> Result<(), ReadFault>
     requires short { length text.now ≤ MAX_LENGTH }
     requires within { at ≤ length text.now }
     requires begins { StandsBetween text.now at (record { closed = no_games; unclosed = [] }) }
@@ -46,19 +46,19 @@ pub(crate) fn read_games<K: Visitor>(
             b')' => {
                 // A `)` too many is the first fault.
                 if depth == 0 {
-                    return Err(PartFault::NotSgf(at));
+                    return Err(ReadFault::NotSgf { at });
                 }
                 depth -= 1;
                 visitor.game_ends(depth);
                 at = skip_white_space(text, at + 1);
             }
             // Before and after games, and after a sequence, only a parenthesis may come: no node after a variation, and no other text.
-            _ => return Err(PartFault::NotSgf(at)),
+            _ => return Err(ReadFault::NotSgf { at }),
         }
     }
     // The text ends too early if a game is unclosed, or none has begun.
     if depth > 0 || at == start {
-        return Err(PartFault::NotSgf(at));
+        return Err(ReadFault::NotSgf { at });
     }
     Ok(())
 }
@@ -70,7 +70,7 @@ fn read_sequence<K: Visitor>(
     at: usize,
     visitor: &mut K,
     long: &mut Vec<LongValue>,
-) -> Result<usize, PartFault>
+) -> Result<usize, ReadFault>
     requires short { length text.now ≤ MAX_LENGTH }
     requires within { at ≤ length text.now }
     requires opened { (k : Stack) × (ComesTo text.now at (opened k)) × (K.keeps text.now visitor.old k nothing)
@@ -82,12 +82,24 @@ fn read_sequence<K: Visitor>(
     ensures fault { IfErr result (IsFaultInOpened (K.keeps text.now visitor.old) text.now at) }
     ensures long { OnOk result (AreKeptLengths text.now long.new.items) }
 {
-    let mut read = NodesRead::none(skip_white_space(text, at));
+    let first = skip_white_space(text, at);
+    let mut read = NodesRead {
+        own: OwnNodes {
+            first,
+            last: first,
+            count: 0,
+            segment: Segment {
+                start: first,
+                end: first,
+            },
+        },
+        end: first,
+    };
     'nodes: while stands_at(text, read.end, b';') {
         read = read_node(text, read, visitor, long)?;
     }
     if read.own.count == 0 {
-        return Err(PartFault::NotSgf(read.end));
+        return Err(ReadFault::NotSgf { at: read.end });
     }
     visitor.own_nodes(read.own)?;
     Ok(read.end)
@@ -101,7 +113,7 @@ fn read_node<K: Visitor>(
     before: NodesRead,
     visitor: &mut K,
     long: &mut Vec<LongValue>,
-) -> Result<NodesRead, PartFault>
+) -> Result<NodesRead, ReadFault>
     requires begins { BeginsNode (K.keeps text.now visitor.old) text.now before }
     requires long { AreKeptLengths text.now long.old.items }
     ensures read { IfOk result (AreNodesRead (K.keeps text.now visitor.old) (K.keeps text.now visitor.new) text.now before) }

@@ -5,7 +5,7 @@ ghost use Rattle.sgf_outline.specs.Machine.{Stack};
 ghost use Rattle.sgf_outline.specs.Unclosed.{unclosed_count};
 ghost use Rattle.sgf_outline.specs.OwnNodes.{Coming, CopiesNode, MayGoOn};
 
-use sgf_outline::{OwnNodes, Segment, Visitor};
+use sgf_outline::{OwnNodes, Visitor};
 use sgf_properties::MemoryFault;
 
 /// The own nodes of a game, as far as they were read.
@@ -14,24 +14,6 @@ pub(crate) struct NodesRead {
     pub own: OwnNodes,
     /// The offset after the white space that follows them.
     pub end: usize,
-}
-
-impl NodesRead {
-    /// No nodes yet. The first `;` is expected at `first`.
-    pub(crate) fn none(first: usize) -> NodesRead
-        ensures { result ≡ record { own = record { first = first; last = first; count = 0; segment = record { start = first; end = first } }; end = first } }
-    {
-        let own = OwnNodes {
-            first,
-            last: first,
-            count: 0,
-            segment: Segment {
-                start: first,
-                end: first,
-            },
-        };
-        NodesRead { own, end: first }
-    }
 }
 
 /// Adds a node to the own nodes of a game, and tells `visitor` of it. The text of the node up to `end` is copied in one piece.

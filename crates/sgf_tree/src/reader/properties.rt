@@ -6,8 +6,8 @@ ghost use Rattle.sgf_outline.specs.OwnNodes.{Copies, MayGoOn};
 ghost use Rattle.sgf_tree.specs.inner.PropertiesRead.{BeginsProperty, IsNameCopied, IsPropertyRead, ArePropertiesRead, IsFaultInProperty, IsFaultInNode};
 ghost use Rattle.sgf_properties.specs.KeptLengths.{AreKeptLengths};
 
+use crate::fault::ReadFault;
 use crate::quick::properties::read_short_property;
-use crate::reader::fault::PartFault;
 use crate::reader::value::read_value;
 use sgf_outline::{MAX_LENGTH, Segment, Visitor};
 use sgf_properties::{
@@ -29,7 +29,7 @@ pub(crate) fn read_properties<K: Visitor>(
     segment: Segment,
     visitor: &mut K,
     long: &mut Vec<LongValue>,
-) -> Result<PartRead, PartFault>
+) -> Result<PartRead, ReadFault>
     requires segment { MayGoOn segment segment.end (length text.now) }
     requires kept { AreKeptLengths text.now long.old.items }
     ensures rises { IfOk result (λ read. read.segment.start ≤ read.segment.end) }
@@ -63,7 +63,7 @@ fn read_property<K: Visitor>(
     before: PartRead,
     visitor: &mut K,
     long: &mut Vec<LongValue>,
-) -> Result<PartRead, PartFault>
+) -> Result<PartRead, ReadFault>
     requires begins { BeginsProperty text.now before }
     requires kept { AreKeptLengths text.now long.old.items }
     ensures rises { IfOk result (λ read. read.segment.start ≤ read.segment.end) }
@@ -85,38 +85,26 @@ fn read_property<K: Visitor>(
     }
 }
 
-/// Reads the identifier that begins at the end of `before`, up to the `[` after it.
+/// Reads the identifier (PropIdent) that begins at the end of `before`, up to the `[` after it. It may have small letters, and white space
+/// may follow it. A shortcut finds the end of a short name.
 #[inline(always)]
 fn read_name<K: Visitor>(
     text: &[u8],
     before: PartRead,
     visitor: &mut K,
-) -> Result<PartRead, PartFault>
+) -> Result<PartRead, ReadFault>
     requires { BeginsProperty text.now before }
     ensures read { IfOk result (IsNameCopied (K.keeps text.now visitor.old) (K.keeps text.now visitor.new) text.now before) }
     ensures fault { IfErr result (IsFaultInProperty text.now before.end) }
 {
-    let Some(end) = short_name_end(text, before.end) else {
-        return read_far_name(text, before, visitor);
-    };
-    let segment = before.segment.then(before.end, end, visitor)?;
-    Ok(PartRead { segment, end })
-}
-
-/// Reads an identifier (PropIdent), which may have small letters, and white space after it. This is the plain way.
-fn read_far_name<K: Visitor>(
-    text: &[u8],
-    before: PartRead,
-    visitor: &mut K,
-) -> Result<PartRead, PartFault>
-    requires { BeginsProperty text.now before }
-    ensures read { IfOk result (IsNameCopied (K.keeps text.now visitor.old) (K.keeps text.now visitor.new) text.now before) }
-    ensures fault { IfErr result (IsFaultInProperty text.now before.end) }
-{
+    if let Some(end) = short_name_end(text, before.end) {
+        let segment = before.segment.then(before.end, end, visitor)?;
+        return Ok(PartRead { segment, end });
+    }
     let text_end = letters_end(text, before.end);
     let end = skip_white_space(text, text_end);
     if !stands_at(text, end, b'[') {
-        return Err(PartFault::NotSgf(end));
+        return Err(ReadFault::NotSgf { at: end });
     }
     let segment = copy_capitals(text, before.end, text_end, before.segment, visitor)?;
     Ok(PartRead { segment, end })
@@ -140,29 +128,10 @@ fn copy_capitals<K: Visitor>(
     let mut segment = segment;
     let mut at = from;
     'letters: while at < to {
-        segment = copy_letter(text, at, segment, visitor)?;
+        if capital_at(text, at) {
+            segment = segment.then(at, at + 1, visitor)?;
+        }
         at += 1;
     }
     Ok(segment)
-}
-
-/// After `segment` the byte at an offset is copied if it is a capital.
-fn copy_letter<K: Visitor>(
-    text: &[u8],
-    at: usize,
-    segment: Segment,
-    visitor: &mut K,
-) -> Result<Segment, MemoryFault>
-    requires segment { MayGoOn segment at (at + 1) }
-    requires within { at < length text.now }
-    ensures rises { IfOk result (λ next. next.start ≤ next.end) }
-    ensures end { IfOk result (λ next. next.end ≤ at + 1) }
-    ensures copied { IfOk result (λ next. Copies (K.keeps text.now visitor.old) (K.keeps text.now visitor.new) text.now segment next
-        (name_in (slice_range text.now at (at + 1)))) }
-{
-    if !capital_at(text, at) {
-        return Ok(segment);
-    }
-    let next = segment.then(at, at + 1, visitor)?;
-    Ok(next)
 }

@@ -3,50 +3,44 @@
 
 ghost use Rattle.std.specs.Prelude.{IfOk, IfErr};
 ghost use Rattle.sgf_properties.specs.Offsets.{IsBracket};
-ghost use Rattle.sgf_tree.specs.inner.PropertiesRead.{MayReadValue, IsValueRead, AreValuesRead, IsFaultInValue, IsFaultInValues};
+ghost use Rattle.sgf_tree.specs.inner.PropertiesRead.{MayReadValue, AreValuesRead, IsFaultInValues};
 
-use crate::reader::fault::PartFault;
+use crate::fault::ReadFault;
 use sgf_properties::{LongValue, far_value_end, past_points, short_value_end};
 
 /// The least length of a value whose length is kept. Nearly all comments are shorter, so few
 /// lengths are kept. A search over this many bytes costs more than looking up a length.
 const LONG: usize = 4096;
 
-/// Reads the value whose `[` is at `at`. Returns the offset of its `]`.
+/// Reads the value whose `[` is at `at`, and keeps its length if the value is long. Returns the offset of its `]`.
 // A shortcut passes over points, if such values begin there, and the value after them is read. Another one reads a short value.
 pub(crate) fn read_value(
     text: &[u8],
     at: usize,
     long: &mut Vec<LongValue>,
-) -> Result<usize, PartFault>
+) -> Result<usize, ReadFault>
     requires may { MayReadValue text.now at long.old.items }
     requires stands { IsBracket text.now at }
     ensures read { IfOk result (AreValuesRead text.now at long.new.items) }
     ensures fault { IfErr result (IsFaultInValues text.now at) }
 {
     let last = past_points(text, at);
-    match short_value_end(text, last + 1) {
-        Some(end) => Ok(end),
-        None => read_far_value(text, last + 1, long),
+    let start = last + 1;
+    if let Some(end) = short_value_end(text, start) {
+        return Ok(end);
     }
-}
-
-/// Reads the raw value at `at` by searches, and keeps its length if the value is long. Returns the offset of its `]`. This
-/// is the plain way.
-fn read_far_value(text: &[u8], at: usize, long: &mut Vec<LongValue>) -> Result<usize, PartFault>
-    requires { MayReadValue text.now at long.old.items }
-    ensures read { IfOk result (IsValueRead text.now at long.new.items) }
-    ensures fault { IfErr result (IsFaultInValue text.now at) }
-{
-    let Some(end) = far_value_end(text, at) else {
-        return Err(PartFault::NotSgf(text.len()));
+    let Some(end) = far_value_end(text, start) else {
+        return Err(ReadFault::NotSgf { at: text.len() });
     };
-    let bytes = end - at;
+    let bytes = end - start;
     if bytes >= LONG {
-        long.push(LongValue {
-            left: (text.len() - at) as u32,
+        let value = LongValue {
+            left: (text.len() - start) as u32,
             bytes: bytes as u32,
-        })?;
+        };
+        if long.push(value).is_err() {
+            return Err(ReadFault::Memory);
+        }
     }
     Ok(end)
 }

@@ -116,9 +116,3 @@ pub record IsFirstFrom (games : Games) (place sequence : ℕ) : Type 0 where
   pub within : sequence ≤ length (sequence_starts games)
   pub before : (earlier here : ℕ) → earlier < sequence → place_at games (sequence_end games earlier - 1) ≡ Some here → here < place
   pub after : (here : ℕ) → sequence < length (sequence_starts games) → place_at games (sequence_end games sequence - 1) ≡ Some here → place ≤ here
-
--- the sequence that ends in the leaf with this place; None if no leaf has it
-abbrev pub IsEndAt : Games → ℕ → Option ℕ → Type 0
-IsEndAt games place (Some sequence) =
-    (sequence < length (sequence_starts games)) × IsLeaf games (sequence_end games sequence - 1) × (place_at games (sequence_end games sequence - 1) ≡ Some place)
-IsEndAt games place None = (leaf : ℕ) → IsLeaf games leaf → place_at games leaf ≢ Some place

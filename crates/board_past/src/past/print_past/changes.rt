@@ -7,9 +7,8 @@ ghost use Rattle.board_stones.specs.Clearing.{play};
 ghost use Rattle.board_points.specs.Point.{IsOn};
 ghost use Rattle.board_past.specs.inner.Changes.{after_changes, step_back, AddsRow, AreOn, KeepRows, is_full, is_fresh, is_settled};
 ghost use Rattle.board_stones.specs.Move.{IsMove};
-ghost use Rattle.board_past.specs.inner.Print.{print_of};
 
-use crate::past::print_past::print::{columns_in, print_of, print_without};
+use crate::past::print_past::print::columns_in;
 use board_points::columns::{all_columns, has_column, without_column};
 use board_points::{MAX_ROWS, Point};
 use board_stones::{Board, Cell, Colour};
@@ -45,7 +44,7 @@ pub(crate) struct Older {
 }
 
 /// What is known of an older colouring.
-#[derive(Clone, Copy, PartialEq, Eq)]
+#[derive(Clone, Copy)]
 pub(crate) enum Known {
     Nothing,
     /// Every stone of it is alive.
@@ -73,14 +72,14 @@ impl Known {
     pub(crate) fn is_settled(self) -> bool
         ensures { result ≡ is_settled self }
     {
-        self != Known::Nothing
+        !matches!(self, Known::Nothing)
     }
 
     /// Whether the step put a stone where no older colouring of the stretch has one.
     pub(crate) fn is_fresh(self) -> bool
         ensures { result ≡ is_fresh self }
     {
-        self == Known::Fresh
+        matches!(self, Known::Fresh)
     }
 }
 
@@ -95,28 +94,6 @@ pub(crate) fn step_back(board: &mut Board, kept: Older, changes: &[Change])
     } else {
         take_back(board, changes);
     }
-}
-
-/// The same as `step_back`. `print` is the board's print. Returns the print after the step back.
-pub(crate) fn step_back_with_print(
-    board: &mut Board,
-    print: u64,
-    kept: Older,
-    changes: &[Change],
-) -> u64
-    requires print { print ≡ print_of board.old }
-    requires point { IsTrue kept.alone → IsOn board.old.side kept.point }
-    requires changes { AreOn board.old.side changes.now }
-    ensures board { board.new ≡ step_back board.old kept changes.now }
-    ensures print { result ≡ print_of board.new }
-{
-    if !kept.alone {
-        take_back(board, changes);
-        return print_of(board);
-    }
-    let before = print_without(print, board, kept.point);
-    board.set(kept.point, Cell::Empty);
-    before
 }
 
 /// Takes a board back by changes, the last one first.
@@ -183,25 +160,17 @@ pub(crate) fn keep_played(
         → KeepRows board.now (play board.now colour point) all board.now.side changes.old.items changes.new.items }
 {
     board.has_all_cells();
-    for row in 0..rows_to_keep(board.size().side(), point, cleared, all) {
+    let rows = if all {
+        board.size().side()
+    } else {
+        (cleared.len() as u8).max(point.row + 1)
+    };
+    for row in 0..rows {
         let apart = all | (row == point.row) | (columns_in(cleared, row) != 0);
         if apart {
             keep_row(board, row, changes);
         }
     }
-}
-
-/// The number of rows among which are all that a stone may change; all rows if `all` is true.
-fn rows_to_keep(side: u8, point: Point, cleared: &[u64], all: bool) -> u8
-    requires row { point.row < side }
-    requires few { length cleared.now ≤ side }
-    ensures few { result ≤ side }
-    ensures rest { (row : ℕ) → result ≤ row → row < side → IsFalse all × (row ≢ point.row) × (slice_index cleared.now row ≡ 0) }
-{
-    if all {
-        return side;
-    }
-    (cleared.len() as u8).max(point.row + 1)
 }
 
 /// Whether the step after `count` others keeps all rows of the colouring before it.

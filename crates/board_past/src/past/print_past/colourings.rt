@@ -12,10 +12,9 @@ ghost use Rattle.board_past.specs.inner.Key.{start_of, since};
 
 use crate::fault::MemoryFault;
 use crate::past::print_past::changes::{
-    Change, FULL, Known, MOST, Older, is_full, keep_played, keep_rows, step_back,
-    step_back_with_print, take_back,
+    Change, FULL, Known, MOST, Older, is_full, keep_played, keep_rows, step_back, take_back,
 };
-use crate::past::print_past::print::{has_point, print_of};
+use crate::past::print_past::print::{has_point, print_of, print_without};
 use board_points::rows::rows_in_use;
 use board_points::{MAX_ROWS, Point};
 use board_stones::{Board, Cell, Colour};
@@ -142,20 +141,8 @@ impl Colourings {
         board.same(&self.board_at(number))
     }
 
-    /// Whether the present stretch has this colouring. All are compared one by one. A run asks this of a stretch of one colouring alone.
-    pub(crate) fn holds(&self, board: &Board) -> bool
-        ensures { IsTrue result ↔ Contains (present_stretch self.now) board.now }
-    {
-        let start = self.stretch_start();
-        'each: for number in (start..self.len()).rev() {
-            if self.is_at(number, board) {
-                return true;
-            }
-        }
-        false
-    }
-
     /// Whether the colouring with this number is of the present stretch, one of the newest, and the same as the board's. False says nothing.
+    // Apart from its caller: a whole board stands on its stack, and each look-up would set room for it to zeros.
     pub(crate) fn has_near(&self, number: usize, board: &Board) -> bool
         requires { number < length (all_of self.now) }
         ensures { IsTrue result → Contains (present_stretch self.now) board.now }
@@ -239,8 +226,13 @@ impl Colourings {
         'each: while at > 0 {
             at -= 1;
             let kept = self.older[at];
-            let changes = &self.changes[kept.start as usize..end];
-            print = step_back_with_print(&mut past, print, kept, changes);
+            if kept.alone {
+                print = print_without(print, &past, kept.point);
+                past.set(kept.point, Cell::Empty);
+            } else {
+                take_back(&mut past, &self.changes[kept.start as usize..end]);
+                print = print_of(&past);
+            }
             end = kept.start as usize;
             prints[at] = print;
         }
@@ -298,9 +290,8 @@ impl Colourings {
         }
     }
 
-    /// Adds the colouring that a stone makes; `cleared` is what the stone clears. `known` is what is known of the newest colouring, and
-    /// whether no colouring of the present stretch has a stone on that point. The colouring continues the present stretch. After a refusal
-    /// nothing is changed.
+    /// Adds the colouring that a stone makes, to the present stretch; `cleared` is what the stone clears. `known` is what is known of the newest
+    /// colouring, and whether no colouring of the stretch has a stone on that point. After a refusal nothing is changed.
     #[inline(always)]
     pub(crate) fn add_stone(
         &mut self,

@@ -18,7 +18,7 @@ ghost use Rattle.board_past.specs.inner.Hash.{columns_bytes, hash_of, HasHashes}
 use board_points::MAX_SIDE;
 use board_stones::{Board, Colour};
 use sha2::{Digest, Sha512};
-use std::alloc::{AllocError, Global};
+use std::alloc::Global;
 
 /// Hashes of colourings, by the colourings' numbers.
 #[derive(Drop)]
@@ -55,40 +55,28 @@ impl Hashes {
         ensures { (held : List Held) → number < length held → HasHashes held self.old
             → ((grid : Grid) → IsNumber held number grid → hash ≢ 0 → hash ≡ hash_of grid) → HasHashes held self.new }
     {
-        if hash != 0 && self.grow(number + 1).is_ok() {
-            self.known[number] = hash;
+        if hash == 0 {
+            return;
         }
-    }
-
-    /// Makes entries for the oldest `count` colourings.
-    fn grow(&mut self, count: usize) -> Result<(), AllocError>
-        ensures hashes { (held : List Held) → count ≤ length held → HasHashes held self.old → HasHashes held self.new }
-        ensures ok { OnOk result (count ≤ length self.new.known.items) }
-    {
         let len = self.known.len();
-        if count <= len {
-            return Ok(());
+        if number >= len {
+            if self.known.reserve(number + 1 - len).is_err() {
+                return;
+            }
+            'each: for _ in len..number + 1 {
+                self.known.push_reserved(0);
+            }
         }
-        self.known.reserve(count - len)?;
-        'each: for _ in len..count {
-            self.known.push_reserved(0);
-        }
-        Ok(())
+        self.known[number] = hash;
     }
 
     /// Forgets the hashes of all colourings but the oldest `count`.
     pub(crate) fn go_back(&mut self, count: usize)
-        ensures { (newest : Held) (older : List Held) → HasHashes (newest ∷ older) self.old → count ≡ length older
+        ensures some { (newest : Held) (older : List Held) → HasHashes (newest ∷ older) self.old → count ≡ length older
             → HasHashes older self.new }
+        ensures none { count ≡ 0 → (held : List Held) → HasHashes held self.new }
     {
         self.known.truncate(count);
-    }
-
-    /// Forgets all hashes.
-    pub(crate) fn clear(&mut self)
-        ensures { (held : List Held) → HasHashes held self.new }
-    {
-        self.known.clear();
     }
 }
 
@@ -102,7 +90,10 @@ pub(crate) fn hash_of(board: &Board) -> u64
         add_columns(&mut hasher, side, board.columns_of(row, Colour::Black));
         add_columns(&mut hasher, side, board.columns_of(row, Colour::White));
     }
-    first_word(hasher.finalize())
+    let digest = hasher.finalize();
+    u64::from_be_bytes([
+        digest[0], digest[1], digest[2], digest[3], digest[4], digest[5], digest[6], digest[7],
+    ])
 }
 
 /// Adds the columns of a row to the message, 8 to a byte. The row has `side` columns.
@@ -113,13 +104,4 @@ fn add_columns(hasher: &mut Sha512, side: u8, columns: u64)
     let bytes = columns.to_le_bytes();
     let count = usize::from(side.div_ceil(8));
     hasher.update(&bytes[..count]);
-}
-
-/// The first eight bytes of a digest, as a number.
-fn first_word(digest: [u8; 64]) -> u64
-    ensures { result ≡ from_be_bytes w64 digest }
-{
-    u64::from_be_bytes([
-        digest[0], digest[1], digest[2], digest[3], digest[4], digest[5], digest[6], digest[7],
-    ])
 }

@@ -7,17 +7,17 @@
 //! A print is linear: a stone adds its code times a power of 31. So it takes few instructions to work out what a stone changes. Whoever
 //! knows that can make colourings with equal prints. A hash tells those apart. This costs only bounded time: the table of prints says why.
 
-ghost use Rattle.std.specs.Prelude.{◌≡◌, ◌<◌, ◌≤◌, ◌+◌, ◌-◌, ◌*◌, ◌%◌, ◌^◌, ℕ, IsTrue, slice_index};
+ghost use Rattle.std.specs.Prelude.{◌≡◌, ◌<◌, ◌≤◌, ◌+◌, ◌*◌, ◌%◌, ◌^◌, ℕ, IsTrue, slice_index};
 ghost use Rattle.board_stones.specs.declared.stones.Cell.TheVariants.{Empty};
 ghost use Rattle.board_stones.specs.Colour.{stone_of};
-ghost use Rattle.board_points.specs.Point.{IsOn, index_of};
+ghost use Rattle.board_points.specs.Point.{IsOn};
 ghost use Rattle.board_stones.specs.Grid.{cell_at, with_cell};
 ghost use Rattle.board_stones.specs.Clearing.{play};
 ghost use Rattle.board_stones.specs.Move.{IsMove};
 ghost use Rattle.board_past.specs.inner.Print.{number_within, print_of, word_number};
 ghost use Rattle.board_points.specs.Rows.{has_bit, is_set};
 
-use crate::past::print_past::powers::{power, small_power};
+use crate::past::print_past::powers::{power_of, small_power};
 use board_points::columns::{has_column, without_column};
 use board_points::{MAX_SIDE, Point};
 use board_stones::{Board, Cell, Colour};
@@ -60,7 +60,7 @@ fn print_after_stone(print: u64, board: &Board, colour: Colour, point: Point) ->
     ensures { result ≡ print_of (with_cell board.now point (stone_of colour)) }
 {
     board.has_all_cells();
-    let weight = power(points_after(board.size().side(), point));
+    let weight = power_of(board.size().side(), point);
     print.wrapping_add(match colour {
         Colour::Black => weight,
         Colour::White => weight.wrapping_mul(2),
@@ -74,7 +74,7 @@ pub(crate) fn print_without(print: u64, board: &Board, point: Point) -> u64
     ensures { result ≡ print_of (with_cell board.now point Empty) }
 {
     board.has_all_cells();
-    let weight = power(points_after(board.size().side(), point));
+    let weight = power_of(board.size().side(), point);
     print.wrapping_sub(match board.at(point) {
         Cell::Empty => 0,
         Cell::Black => weight,
@@ -137,19 +137,6 @@ pub(crate) fn has_point(rows: &[u64], point: Point) -> bool
     has_column(columns_in(rows, point.row), usize::from(point.col))
 }
 
-/// How many points come after a point, row by row from the top, from left to right.
-fn points_after(side: u8, point: Point) -> usize
-    requires on_board { IsOn side point }
-    requires side { side ≤ MAX_SIDE }
-    ensures value { result ≡ side * side - 1 - index_of side point }
-    ensures few { result < 2704 }
-{
-    // in 32 bits: then the compiled masks are short
-    let side = u32::from(side);
-    let rows = side - u32::from(point.row);
-    (rows * side - 1 - u32::from(point.col)) as usize
-}
-
 /// The columns of a row of a set, which may have fewer rows.
 pub(crate) fn columns_in(rows: &[u64], row: u8) -> u64
     ensures { result ≡ slice_index rows.now row }
@@ -179,14 +166,7 @@ fn number_of(side: u8, columns: u64) -> u64
     if without_column(columns, col) == 0 {
         return small_power(usize::from(side) - 1 - col);
     }
-    number_by_bytes(side, columns)
-}
-
-/// The number of a word, modulo 2^64, which may have many columns: each byte is looked up.
-fn number_by_bytes(side: u8, columns: u64) -> u64
-    requires side { side ≤ MAX_SIDE }
-    ensures { result ≡ word_number side columns % 2 ^ 64 }
-{
+    // otherwise each byte is looked up
     let bytes = side.div_ceil(8);
     // digits 0 before the first fill up the first byte
     let mut left = columns << (8 * bytes - side);

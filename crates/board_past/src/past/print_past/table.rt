@@ -1,10 +1,11 @@
 //! The table by which colourings are looked up.
 //!
-//! A look-up descends a trie of keys (see `key`, and the crate `key_trie`) by the bits of the colouring that is looked up. It ends at one
-//! past colouring, and compares with that one alone: first by the print (`gap`). If that colouring has the print and is one of the newest, the
-//! boards are compared, which answers a ko at once (`Colourings::has_near`). If this doesn't tell, another descent goes on by the start of
-//! the stretch and the rows, and the two keys are compared to their ends (`gap_by_board`). So a look-up costs at most four descents, and two
-//! past colourings worked out, whatever was played before. It also tells where the new colouring comes in.
+//! Once `link` has put all colourings into a trie of keys (see `key`, and the crate `key_trie`), a look-up descends this trie by the bits of
+//! the colouring that is looked up. It ends at one past colouring, and compares with that one alone: first by the print (`gap`). If that
+//! colouring has the print and is one of the newest, the boards are compared, which answers a ko at once (`Colourings::has_near`). If this doesn't
+//! tell, another descent goes on by the start of the stretch and the rows, and the two keys are compared to their ends (`gap_by_board`). So a
+//! look-up costs at most four descents, and two past colourings worked out, whatever was played before. It also tells where the new colouring
+//! comes in.
 //! To put a colouring into the trie that wasn't looked up costs at most two colourings worked out, its own and that at the end of its
 //! descent, and this only if they have the same print and the same stretch. To take one out is one step.
 //!
@@ -19,8 +20,6 @@
 //! With hashes, a look-up that goes on by the rows works out two hashes more at most: that of its own colouring, and that of the past one, if
 //! it isn't kept (`hashes`). For this hash the past colouring is worked out once more. To put a colouring in costs as much for each of the two.
 //!
-//! This is so once `link` has put all colourings into the trie. `gap` calls it first.
-//!
 //! In most games the newest colourings answer all that is asked (`Colourings::look_back`). So the table sleeps at first: it has no prints,
 //! and a stone that is played at once costs nothing here. `wake` works the prints out, once a game, one for each colouring. A setup
 //! after other steps wakes it, too. From then on the table has those of all colourings.
@@ -31,7 +30,7 @@ ghost use Rattle.board_past.specs.Past.{Held, all_of, present_stretch, with_next
 ghost use Rattle.board_past.specs.inner.Changes.{IsNumber};
 ghost use Rattle.board_past.specs.inner.Key.{bits_of, hash_in_key, keys_of};
 ghost use Rattle.board_past.specs.inner.Print.{print_of};
-ghost use Rattle.board_past.specs.inner.Table.{GrowsTable, HasRoomForNext, HasUnlinked, IsAsleepTable, IsAwakeTable, IsGap, IsFirstApart, IsPrintOfNext, IsTable, LinksNext, SameButHashes};
+ghost use Rattle.board_past.specs.inner.Table.{GrowsTable, HasRoomForNext, HasUnlinked, IsAsleepTable, IsAwakeTable, IsGap, IsFirstApart, IsPrintOfNext, IsTable, LinksNext};
 ghost use Rattle.key_trie.specs.Key.{Agree};
 ghost use Rattle.key_trie.specs.Trie.{item_count, nodes_of, capacity_of};
 ghost use Rattle.std.specs.Vec.{vec_capacity};
@@ -214,7 +213,7 @@ impl Table {
         self.trie.clear();
         self.prints.clear();
         self.hashed = false;
-        self.hashes.clear();
+        self.hashes.go_back(0);
         self.room_asleep = room_of_both(&self.prints, &self.trie);
     }
 
@@ -261,10 +260,13 @@ impl Table {
         ensures gap { IfSome result (IsGap (all_of colourings.now) self.new (with_next colourings.now board.now false).newest) }
         ensures has { IfNone result (Contains (present_stretch colourings.now) board.now) }
     {
-        self.hash_if_deep(colourings, board, print);
+        let start = colourings.stretch_start();
+        if self.hash_if_deep(&ColouringKey::new(start, print, 0, board)) {
+            self.link(colourings);
+        }
         board.has_all_cells();
-        let hash = self.hash_in_key(board);
-        let key = ColouringKey::new(colourings.stretch_start(), print, hash, board);
+        let hash = if self.hashed { hash_of(board) } else { 0 };
+        let key = ColouringKey::new(start, print, hash, board);
         let from = self.trie.descend(&key, WIDTH);
         let near = self.trie.child(from) as usize;
         match self.first_apart(colourings, &key, near) {
@@ -289,7 +291,7 @@ impl Table {
         requires table { IsAwakeTable (all_of colourings.now) self.old }
         requires number { number < length (all_of colourings.now) }
         ensures table { IsAwakeTable (all_of colourings.now) self.new }
-        ensures rest { SameButHashes self.old self.new }
+        ensures rest { self.new ≡ record self.old { hashes = self.new.hashes } }
         ensures apart { IsFirstApart (bits_of key.now) (keys_of self.old.hashed (all_of colourings.now) number) result }
         ensures cells { IfNone result ((grid : Grid) × IsNumber (all_of colourings.now) number grid
             × (length grid.cells ≡ grid.side * grid.side)) }
@@ -311,7 +313,7 @@ impl Table {
         requires table { IsAwakeTable (all_of colourings.now) self.old }
         requires number { number < length (all_of colourings.now) }
         ensures table { IsAwakeTable (all_of colourings.now) self.new }
-        ensures rest { SameButHashes self.old self.new }
+        ensures rest { self.new ≡ record self.old { hashes = self.new.hashes } }
         ensures hash { (grid : Grid) → IsNumber (all_of colourings.now) number grid → result ≡ hash_in_key self.old.hashed grid }
     {
         if !self.hashed {
@@ -325,46 +327,22 @@ impl Table {
         hash
     }
 
-    /// Lets keys have hashes if a descent by the key of a board passes more nodes than it should. All colourings are put into the trie anew
-    /// then.
-    fn hash_if_deep(&mut self, colourings: &Colourings, board: &Board, print: u64)
-        requires table { IsAwakeTable (all_of colourings.now) self.old }
-        requires all { item_count self.old.trie ≡ length self.old.prints.items }
-        ensures table { IsAwakeTable (all_of colourings.now) self.new }
-        ensures all { item_count self.new.trie ≡ length self.new.prints.items }
-    {
-        let key = ColouringKey::new(colourings.stretch_start(), print, 0, board);
-        if self.is_deep(&key) {
-            self.begin_anew();
-            self.link(colourings);
-        }
-    }
-
-    /// Whether keys have no hashes yet, and a descent by this key passes more nodes than it should.
-    fn is_deep(&self, key: &ColouringKey<'_>) -> bool
-        requires trie { (held : List Held) × IsAwakeTable held self.now }
-        requires some { 0 < item_count self.now.trie }
-        ensures { IsTrue result → IsFalse self.now.hashed }
-    {
-        !self.hashed && self.trie.passes(key, WIDTH, MOST_PASSED)
-    }
-
-    /// Lets keys have hashes, and takes all colourings out of the trie.
-    fn begin_anew(&mut self)
-        requires { (held : List Held) × IsAwakeTable held self.old }
+    /// Lets keys have hashes, if they have none and a descent by this key passes more nodes than it should. Takes all colourings out of the
+    /// trie then. Returns whether it did.
+    fn hash_if_deep(&mut self, key: &ColouringKey<'_>) -> bool
+        requires table { (held : List Held) × IsAwakeTable held self.old }
+        requires some { 0 < item_count self.old.trie }
         ensures table { (held : List Held) → IsAwakeTable held self.old → IsAwakeTable held self.new }
-        ensures hashed { IsTrue self.new.hashed }
         ensures prints { self.new.prints.items ≡ self.old.prints.items }
+        ensures hashed { IsTrue result → IsFalse self.old.hashed × IsTrue self.new.hashed }
+        ensures unchanged { IsFalse result → self.new ≡ self.old }
     {
+        if self.hashed || !self.trie.passes(key, WIDTH, MOST_PASSED) {
+            return false;
+        }
         self.trie.clear();
         self.hashed = true;
-    }
-
-    /// What stands in a key for the hash of a board: 0 if keys have no hashes.
-    fn hash_in_key(&self, board: &Board) -> u64
-        ensures { result ≡ hash_in_key self.now.hashed board.now }
-    {
-        if self.hashed { hash_of(board) } else { 0 }
+        true
     }
 
     /// The front of the key of the colouring with this number, and for its rest a hash and the bits of a board.
@@ -433,8 +411,7 @@ impl Table {
         let board = colourings.board_at(next);
         let hash = self.take_hash(colourings, next);
         let key = self.key_of(colourings, next, hash, &board);
-        if self.is_deep(&key) {
-            self.begin_anew();
+        if self.hash_if_deep(&key) {
             return;
         }
         let from = self.trie.descend(&key, WIDTH);

@@ -1,10 +1,7 @@
 use Rattle.board_points.proofs.Common.{◌≡◌, ◌<◌, length, set, slice_index, bit_or, inr, sym, ap, ◌∙◌, arith, rules, length-set, and_parts, has_bit}
 use Rattle.board_points.proofs.WordLemmas.{has_bit-and}
-use Rattle.board_points.proofs.GiveLemmas.{IsFilledBut-last, IsFilledBut-give, has_all, row_there, HaveMore-twice, IsAmong-taken, taken-there, left-there, lacking-taken}
+use Rattle.board_points.proofs.GiveLemmas.{IsFilledBut-last, IsFilledBut-give, has_all, row_there, has_bit_lacked, HaveMore-twice, IsAmong-taken, taken-there, left-there, lacking-taken}
 use Rattle.board_points.proofs.fill.give.Goals as goal
-
-pub columns_apart-lacks-requires : goal.columns_apart-lacks-requires
-columns_apart-lacks-requires c = λ col is. c.requires.within.within (record { col = col; row = c.args.first }) is
 
 pub returns-then-next-rows-clause-filled : goal.returns-then-next-rows-clause-filled
 returns-then-next-rows-clause-filled c = λ start flags was.
@@ -14,9 +11,6 @@ returns-then-next-rows-clause-filled c = λ start flags was.
     let at : c.next-next.result ≡ next = c.next-next.ensures.only next step in
     absurd (omega (arith, row_there c.args.region.now next col there, at, c.if-next-rows.true, l.invariant.within.same)))
 
-pub columns_apart-here-requires : goal.columns_apart-here-requires
-columns_apart-here-requires c = λ col is. c.rows.invariant.within.within (record { col = col; row = c.next-next.result }) is
-
 pub returns-then-here-given-eq0-clause-filled : goal.returns-then-here-given-eq0-clause-filled
 returns-then-here-given-eq0-clause-filled c = λ start flags was.
     let l = c.rows in
@@ -24,7 +18,7 @@ returns-then-here-given-eq0-clause-filled c = λ start flags was.
     (λ next step col there given.
     let at : c.next-next.result ≡ next = c.next-next.ensures.only next step in
     ap (λ k. has_bit (slice_index l.rows k) col) (sym at)
-    ∙ has_all (slice_index c.args.region.now c.next-next.result) (slice_index l.rows c.next-next.result) c.columns_apart-here.result l.given c.columns_apart-here.ensures c.if-here-given-eq0.true col
+    ∙ has_all (slice_index c.args.region.now c.next-next.result) (slice_index l.rows c.next-next.result) _ l.given (has_bit_lacked c.args.region.now l.rows c.next-next.result l.invariant.within.within) c.if-here-given-eq0.true col
     (ap (λ k. has_bit (slice_index c.args.region.now k) col) at ∙ there) given)
 
 pub widened-taken-requires : goal.widened-taken-requires
@@ -33,17 +27,17 @@ widened-taken-requires c = λ col is. (and_parts _ _ (sym (has_bit-and _ _ col) 
 pub rows-smaller : goal.rows-smaller
 rows-smaller c =
     let l = c.rows in
-    let here = c.columns_apart-here in
+    let here_is = has_bit_lacked c.args.region.now l.rows c.next-next.result l.invariant.within.within in
     let taken = c.widened-taken in
     let next = c.next-next.result in
-    lacking-taken c.args.region.now l.rows next l.given here.result taken.result.0 c.if-next-rows.false l.invariant.within.within here.ensures taken.ensures.within
-    c.if-here-given-eq0.false (search rules) (search rules) taken.ensures.kept
+    lacking-taken c.args.region.now l.rows next l.given _ taken.result.0 c.if-next-rows.false l.invariant.within.within here_is taken.ensures.within
+    c.if-here-given-eq0.false (search rules) taken.ensures.kept
 
 pub rows-preserved : goal.rows-preserved
 rows-preserved c =
     let l = c.rows in
     let region = c.args.region.now in
-    let here = c.columns_apart-here in
+    let here_is = has_bit_lacked c.args.region.now l.rows c.next-next.result l.invariant.within.within in
     let taken = c.widened-taken in
     let next = c.next-next.result in
     let word = bit_or (slice_index l.rows next) taken.result.0 in
@@ -56,17 +50,17 @@ rows-preserved c =
       within = record {
         same = long ∙ l.invariant.within.same;
         few = omega (arith, long, l.invariant.within.few);
-        within = IsAmong-taken region l.rows next l.given here.result taken.result.0 below l.invariant.within.within here.ensures taken.ensures.within;
+        within = IsAmong-taken region l.rows next l.given _ taken.result.0 below l.invariant.within.within here_is taken.ensures.within;
       };
       row = omega (arith, long, below);
-      given = taken-there region l.rows next l.given here.result taken.result.0 below l.invariant.within.within here.ensures taken.ensures.within;
-      lacks = left-there region l.rows next l.given here.result taken.result.0 below l.invariant.within.within here.ensures taken.ensures.within taken.result.1 taken.ensures.left;
+      given = taken-there region l.rows next l.given _ taken.result.0 below l.invariant.within.within here_is taken.ensures.within;
+      lacks = left-there region l.rows next l.given _ taken.result.0 below l.invariant.within.within here_is taken.ensures.within taken.result.1 taken.ensures.left;
       filled = λ start ahead was.
-          IsFilledBut-give c.args.direction region start l.rows ahead l.flags l.row next l.given here.result taken.result.0 (l.invariant.filled start ahead was) is_next below
-          l.invariant.given here.ensures taken.ensures.within taken.ensures.kept taken.ensures.closed taken.ensures.least
+          IsFilledBut-give c.args.direction region start l.rows ahead l.flags l.row next l.given _ taken.result.0 (l.invariant.filled start ahead was) is_next below
+          l.invariant.given here_is taken.ensures.within taken.ensures.kept taken.ensures.closed taken.ensures.least
           l.lacks flags.result l.invariant.lacks flags.ensures.there flags.ensures.elsewhere;
       more =
           HaveMore-twice c.args.rows.now l.rows after c.args.back l.flags flags.result l.invariant.more
-          (inr (lacking-taken region l.rows next l.given here.result taken.result.0 below l.invariant.within.within here.ensures taken.ensures.within
-          c.if-here-given-eq0.false (search rules) (search rules) taken.ensures.kept));
+          (inr (lacking-taken region l.rows next l.given _ taken.result.0 below l.invariant.within.within here_is taken.ensures.within
+          c.if-here-given-eq0.false (search rules) taken.ensures.kept));
     }

@@ -1,27 +1,20 @@
 use Rattle.board_points.proofs.Common.{◌/◌, ◌^◌, bit_and, sym, ◌∙◌, arith, rules, and_parts}
+use Rattle.board_points.proofs.WordLemmas.{has_bit_apart}
 use Rattle.board_points.proofs.CarryLemmas.{IsWidened-carried, IsWidened-before, in_before, HasBeside-none, AreLeft-before, fewer_left}
 use Rattle.board_points.proofs.fill.widened.Goals as goal
 
-pub columns_apart-left-requires : goal.columns_apart-left-requires
-columns_apart-left-requires c = (IsWidened-carried c.args.region c.args.seed (omega (arith, c.ranges.region.fits)) c.requires).within
-
 pub widen-init : goal.widen-init
-widen-init c = record {
-  wide = IsWidened-carried c.args.region c.args.seed (omega (arith, c.ranges.region.fits)) c.requires;
-  left = c.columns_apart-left.ensures;
-}
+widen-init c =
+    let wide = IsWidened-carried c.args.region c.args.seed (omega (arith, c.ranges.region.fits)) c.requires in
+    record { wide = wide; left = λ col. has_bit_apart _ _ col wide.within }
 
 pub returns-then-before-eq0-clause-closed : goal.returns-then-before-eq0-clause-closed
 returns-then-before-eq0-clause-closed c =
     HasBeside-none c.args.region c.args.seed c.widen.word c.widen.left c.widen.invariant.wide c.widen.invariant.left c.if-before-eq0.true
 
-pub columns_apart-left-requires-in-widen : goal.columns_apart-left-requires-in-widen
-columns_apart-left-requires-in-widen c = λ col is. (in_before c.widen.word c.widen.left col is).1
-
 pub widen-smaller : goal.widen-smaller
 widen-smaller c =
-    fewer_left c.widen.left (bit_and (c.widen.word / 2 ^ 1) c.widen.left) c.columns_apart-left-in-widen.result c.if-before-eq0.false (search rules)
-    (λ col is. (in_before c.widen.word c.widen.left col is).1) c.columns_apart-left-in-widen.ensures
+    fewer_left c.widen.left (bit_and (c.widen.word / 2 ^ 1) c.widen.left) c.if-before-eq0.false (search rules) (λ col is. (in_before c.widen.word c.widen.left col is).1)
 
 pub widen-preserved : goal.widen-preserved
 widen-preserved c =
@@ -31,5 +24,5 @@ widen-preserved c =
       wide = IsWidened-before c.args.region c.args.seed w.word before w.invariant.wide
           (λ col is. (and_parts _ _ (sym (w.invariant.left col) ∙ (in_before w.word w.left col is).1)).0)
           (λ col is. (in_before w.word w.left col is).0);
-      left = AreLeft-before c.args.region w.word w.left before c.columns_apart-left-in-widen.result w.invariant.left c.columns_apart-left-in-widen.ensures;
+      left = AreLeft-before c.args.region w.word w.left before w.invariant.left (λ col is. (in_before w.word w.left col is).1);
     }

@@ -1,16 +1,25 @@
 -- clap entered the command with this name, and found what the words after it give.
 use Rattle.std.proofs.Common.{◌≡◌, ◌∙◌, ap, codes, false, subst, sym, true, rules, true≢false}
+use Rattle.std.specs.Str.Parse.{ExplainsUnsignedError, HasUnsignedDigitsIfOk, ParsesUnsigned}
+use Rattle.clap.specs.Matches.{found_of}
 use Rattle.clap.specs.Walk.{first_of}
+use Rattle.clap.proofs.WalkLemmas.{one_text-rows}
 use Rattle.sgfsplit_job.specs.PlainWords.{file_of}
 use Rattle.sgfsplit_job.specs.inner.Found.{HoldSplitWords}
-use Rattle.sgfsplit_job.proofs.PlainWords.{entered_name, same_name, same_rows}
+use Rattle.sgfsplit_job.proofs.PlainWords.{entered_name, number_given, same_name, same_rows}
 use Rattle.sgfsplit_job.proofs.words.found_job.Goals as goal
 
 pub returns-clause-split : goal.returns-clause-split
 returns-clause-split c = λ words rows plain sub hold.
     let same = same_rows _ _ _ _ c.subcommand.ensures.rows c.in-Some.is sub in
     let found = subst (HoldSplitWords words) same hold in
-    (c.options_given-options.ensures words plain found, c.in_ok-file.ensures ∙ ap file_of found.file)
+    let matches = found_of c.in-Some.found.now in
+    let form = c.form_given.ensures _ found.form in
+    let after = number_given _ (λ bs r. ParsesUnsigned 64 10 bs r × ExplainsUnsignedError 10 bs r × HasUnsignedDigitsIfOk bs r) _ words.after c.get_one.result
+    (one_text-rows matches (codes "after") ∙ found.after) c.get_one.ensures.none c.get_one.ensures.value (λ u x g. g.0) plain.after in
+    let limit = number_given _ (λ bs r. ParsesUnsigned 64 10 bs r × ExplainsUnsignedError 10 bs r × HasUnsignedDigitsIfOk bs r) _ words.limit c.get_one-2.result
+    (one_text-rows matches (codes "limit") ∙ found.limit) c.get_one-2.ensures.none c.get_one-2.ensures.value (λ u x g. g.0) plain.limit in
+    (cc, c.in_ok-file.ensures ∙ ap file_of found.file)
 
 pub returns-clause-count : goal.returns-clause-count
 returns-clause-count c = λ rows sub.

@@ -1,6 +1,6 @@
 -- One step back leaves one sequence out.
-use Rattle.tree_lines.proofs.Common.{◌≡◌, ◌≤◌, ◌<◌, ◌-◌, ◌+◌, ℕ, inl, inr, length, get_or, take, slice_get, Some, sym, ap, ◌∙◌, arith, rules, take-length, cases_eq, slice_get-get_or, slice_get_within, sequence_starts, Part, parts_of, part_numbers, sequence_length}
-use Rattle.tree_lines.proofs.SequenceParts.{length-parts_of, part_at, one_back}
+use Rattle.tree_lines.proofs.Common.{◌≡◌, ◌≤◌, ◌<◌, ◌-◌, ◌+◌, ℕ, inl, inr, length, get_or, take, sym, ap, ◌∙◌, arith, rules, take-length, cases_eq, slice_get-get_or, slice_get_within, sequence_starts, parts_of, part_numbers, sequence_length}
+use Rattle.tree_lines.proofs.SequenceParts.{length-parts_of, part_number, one_back}
 use Rattle.tree_lines.proofs.SequenceCuts.{nodes_are}
 use Rattle.tree_lines.proofs.sequence_cursor.front_up_to.Goals as goal
 use Rattle.tree_lines.proofs.sequence_cursor.front_up_to.Goals.{Then-path-kept}
@@ -22,13 +22,16 @@ back c =
 pub loop-kept-init : goal.loop-kept-init
 loop-kept-init c = search (rules, length-parts_of, take-length, slice_get_within)
 
-pub sequence_length-nodes-requires : goal.sequence_length-nodes-requires
-sequence_length-nodes-requires c = (back (goal.at.sequence_length-nodes-requires c).Then-path-kept).0
+pub sequence_end-requires : goal.sequence_end-requires
+sequence_end-requires c = (back (goal.at.sequence_end-requires c).Then-path-kept).0
 
-pub overflow_sub-nodes : goal.overflow_sub-nodes
-overflow_sub-nodes c =
-    let b = back (goal.at.overflow_sub-nodes c).Then-path-kept in
-    omega (arith, b.1, c.loop-kept.invariant.count, c.sequence_length-nodes.ensures)
+pub sequence_start-requires : goal.sequence_start-requires
+sequence_start-requires c = (back (goal.at.sequence_start-requires c).Then-path-kept).0
+
+pub overflow_sub-nodes-in-loop-kept : goal.overflow_sub-nodes-in-loop-kept
+overflow_sub-nodes-in-loop-kept c =
+    let b = back (goal.at.overflow_sub-nodes-in-loop-kept c).Then-path-kept in
+    omega (arith, b.1, c.loop-kept.invariant.count, c.sequence_end.ensures.end, c.sequence_start.ensures)
 
 pub loop-kept-preserved : goal.loop-kept-preserved
 loop-kept-preserved c =
@@ -37,13 +40,9 @@ loop-kept-preserved c =
     let i = c.loop-kept.kept - 1 in
     record {
       within = omega (arith, c.loop-kept.invariant.within);
-      count = omega (arith, b.1, c.loop-kept.invariant.count, c.sequence_length-nodes.ensures);
+      count = omega (arith, b.1, c.loop-kept.invariant.count, c.sequence_end.ensures.end, c.sequence_start.ensures);
       others = λ j part low there. elim (cases_eq j i) [
-        | inl same ↦
-            let p = part_at c.args.outline.now 0 path i (get_or path i 0) (slice_get-get_or path i 0 (omega (arith, c.loop-kept.invariant.within, c.loop-kept-test.true))) in
-            let here : slice_get (parts_of c.args.outline.now 0 path) i ≡ Some part = rw same at there in
-            let is : part ≡ p.0 = let at_it = p.1 in cc in
-            λ e. c.if-path-kept.true (sym p.2 ∙ sym (ap (λ (q : Part). q.sequence) is) ∙ e)
+        | inl same ↦ λ e. c.if-path-kept.true (ap (λ k. get_or path k 0) (sym same) ∙ sym (part_number c.args.outline.now 0 path j 0 part there) ∙ e)
         | inr other ↦ c.loop-kept.invariant.others j part (omega arith) there
       ];
     }
@@ -59,10 +58,5 @@ returns-else-path-kept c =
       within = within;
       count = c.loop-kept.invariant.count ∙ sym (nodes_are games (parts_of games 0 path) c.requires.parts c.loop-kept.kept within);
       others = c.loop-kept.invariant.others;
-      last = λ j part at there.
-          let same : j ≡ i = omega arith in
-          let p = part_at games 0 path i (get_or path i 0) (slice_get-get_or path i 0 (omega (arith, c.loop-kept.invariant.within, at))) in
-          let here : slice_get (parts_of games 0 path) i ≡ Some part = rw same at there in
-          let is : part ≡ p.0 = let at_it = p.1 in cc in
-          ap (λ (q : Part). q.sequence) is ∙ p.2 ∙ c.if-path-kept.false;
+      last = λ j part at there. let same : j ≡ i = omega arith in part_number games 0 path j 0 part there ∙ ap (λ k. get_or path k 0) same ∙ c.if-path-kept.false;
     })

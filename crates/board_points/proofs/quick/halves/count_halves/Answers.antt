@@ -1,7 +1,7 @@
 use Rattle.board_points.proofs.Common.{◌≡◌, ◌+◌, ◌-◌, ◌/◌, ◌%◌, ◌<◌, ◌≤◌, ◌^◌, ◌∙◌, ap, sym, subst, bit_and, w64, count_ones, length, get_or, arith, rules, bit_not, low_halves, high_halves}
 use Rattle.std.proofs.Math.ListN.{get_or-map}
 use Rattle.board_points.proofs.CountLemmas.{IsCounted, counted_more, counted_all}
-use Rattle.board_points.proofs.HalvesLemmas.{left_low, left_high, ones_by_halves}
+use Rattle.board_points.proofs.HalvesLemmas.{low_rotated, high_rotated, left_low, left_high, ones_by_halves}
 use Rattle.board_points.proofs.quick.halves.count_halves.Goals as goal
 
 pub rows-preserved : goal.rows-preserved
@@ -18,15 +18,15 @@ rows-preserved c =
     let low_fits : word % 2 ^ 32 < 2 ^ 64 = omega arith in
     let high_fits : word / 2 ^ 32 < 2 ^ 64 = omega (arith, low_word) in
     let alone = c.columns_left-alone in
-    let other = c.exchanged in
-    let other_fits : other.result < 2 ^ 64 = search rules in
+    let turned = c.rotate_left in
+    let turned_fits : turned.result < 2 ^ 64 = search rules in
     let alone_fits : alone.result < 2 ^ 64 = search rules in
     let low : alone.result % 2 ^ 32 ≡ bit_and (word % 2 ^ 32) (bit_not w64 (word / 2 ^ 32)) =
-    left_low word other.result alone.result low_word other_fits alone.ensures.within alone.ensures.off
-    ∙ ap (λ w. bit_and (word % 2 ^ 32) (bit_not w64 w)) other.ensures.low in
+    left_low word turned.result alone.result low_word turned_fits alone.ensures.within alone.ensures.off
+    ∙ ap (λ w. bit_and (word % 2 ^ 32) (bit_not w64 w)) (low_rotated word turned.result low_word turned.ensures) in
     let high : alone.result / 2 ^ 32 ≡ bit_and (word / 2 ^ 32) (bit_not w64 (word % 2 ^ 32)) =
-    left_high word other.result alone.result low_word other_fits alone.ensures.within alone.ensures.off
-    ∙ ap (λ w. bit_and (word / 2 ^ 32) (bit_not w64 w)) other.ensures.high in
+    left_high word turned.result alone.result low_word turned_fits alone.ensures.within alone.ensures.off
+    ∙ ap (λ w. bit_and (word / 2 ^ 32) (bit_not w64 w)) (high_rotated word turned.result low_word turned.ensures) in
     let both : count_ones alone.result ≡ count_ones (alone.result / 2 ^ 32) + count_ones (alone.result % 2 ^ 32) = ones_by_halves alone.result in
     let one = c.rows.in_one in
     let black = c.rows.in_black in

@@ -1,7 +1,7 @@
 use Rattle.board_stones.proofs.Common.{◌∙◌, length, inl, inr, sym, ap, subst, refl, arith, rules, false≢true, Point, IsOn, is_set, cell_at, Reaches, IsClearedOrReaches, Empty, Contains-take_more}
 use Rattle.board_points.proofs.LinkedLemmas.{none_in_front}
 use Rattle.board_stones.proofs.GridLemmas.{Decides-same_cell}
-use Rattle.board_stones.proofs.LibertyLemmas.{rows_of_opponent, Reaches-liberty}
+use Rattle.board_stones.proofs.LibertyLemmas.{rows_of_colour, Reaches-liberty, IsStone-rows}
 use Rattle.board_stones.proofs.ClearedLemmas.{AddsGroup-rows, adds_either, cleared_still, beside_cleared}
 use Rattle.board_stones.proofs.board.Board.find_shut_among.Goals as goal
 use Rattle.board_stones.proofs.board.Board.find_shut_among.Goals.{then-has_stone+then-not-has_point+then-not-has_point-2, else-has_stone, else-has_stone-via-else-has_stone, else-has_stone-via-then-has_stone+else-not-has_point, else-has_stone-via-then-has_stone+then-not-has_point+else-not-has_point-2}
@@ -24,11 +24,8 @@ loop-at-init c = record {
 pub add_to_either-some-requires-clause-stone : goal.add_to_either-some-requires-clause-stone
 add_to_either-some-requires-clause-stone c =
     let known = c.has_stone.ensures.0 c.if-has_stone.true in
-    record {
-      rows = search rules;
-      on_board = search (rules, known);
-      there = c.rows_of-own.ensures.are.on _ known.0 ∙ (Decides-same_cell _ _).1 known.1;
-    }
+    let are = rows_of_colour _ _ _ _ c.opponent.ensures c.rows_of-others.ensures.are in
+    IsStone-rows _ _ _ _ _ c.rows_of-own.ensures.rows c.rows_of-own.ensures.are are c.has_all_cells.ensures.few c.rows_of-others.ensures.rows known.0 known.1
 
 pub loop-at-preserved : goal.loop-at-preserved
 loop-at-preserved c =
@@ -36,7 +33,7 @@ loop-at-preserved c =
     let k = c.args.colour in
     let own = c.rows_of-own in
     let other = c.rows_of-others in
-    let are = rows_of_opponent g k c.opponent.result other.result.now c.opponent.ensures other.ensures.are in
+    let are = rows_of_colour _ _ _ _ c.opponent.ensures other.ensures.are in
     let before = c.loop-at.invariant in
     let turn = λ (q : Point). Contains-take_more c.neighbours-beside.result c.loop-at.at-index q (omega arith) in
     elim c.if-has_stone.branch [

@@ -1,6 +1,8 @@
-use Rattle.board_stones.proofs.LibertyLemmas.{unreaching_is}
+use Rattle.board_stones.specs.declared.stones.Colour.TheVariants.{Black, White}
+use Rattle.board_stones.proofs.LibertyLemmas.{unreaching_is, Decides-AllReach}
 use Rattle.board_stones.proofs.board.Board.has_unreaching.Goals as goal
 
 pub returns : goal.returns
 returns c =
-    unreaching_is c.args.self.now c.all_reach-black_reach.result c.all_reach-white_reach.result c.all_reach-black_reach.ensures c.all_reach-white_reach.ensures
+    let g = c.args.self.now in
+    unreaching_is g _ _ (Decides-AllReach g Black _ _ c.shut_stones.ensures.shut c.is_none-black_reach.ensures) (Decides-AllReach g White _ _ c.shut_stones-2.ensures.shut c.is_none.ensures)

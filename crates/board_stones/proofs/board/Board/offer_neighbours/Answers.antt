@@ -1,7 +1,8 @@
-use Rattle.board_stones.proofs.Common.{◌≡◌, ◌⊎◌, inl, inr, sym, subst, arith, Contains, take_all, Point, IsOn, cell_at, Contains-take_more}
+use Rattle.board_stones.proofs.Common.{◌≡◌, ◌⊎◌, ◌↔◌, true, get_or, common_steps, inl, inr, sym, subst, arith, Contains, take_all, Point, IsOn, cell_at, Contains-take_more}
 use Rattle.std.proofs.lemmas.List.Elements.{Contains-get_or}
 use Rattle.board_points.proofs.PointLemmas.{origin}
 use Rattle.board_points.proofs.SearchLemmas.{Finds-then, Finds-same}
+use Rattle.board_stones.proofs.GridLemmas.{Decides-cell_eq, same_cell-eq}
 use Rattle.board_stones.proofs.board.Board.offer_neighbours.Goals as goal
 
 pub loop-to-preserved : goal.loop-to-preserved
@@ -11,7 +12,7 @@ loop-to-preserved c =
     let Through = λ (q : Point). (cell_at g c.args.from ≡ c.args.target) ⊎ (cell_at g q ≡ cell_at g c.args.from) in
     let beside = c.neighbours-beside.result in
     let n = c.loop-to.to-index in
-    let test = c.reaches_through.ensures in
+    let test : (c.if-is_on.through ≡ true) ↔ (IsOn g.side (get_or beside n origin) × Through (get_or beside n origin)) = grind (arith, common_steps, Decides-cell_eq, same_cell-eq) in
     Finds-then _ _ _ _ _ _ c.loop-to.invariant c.offer.ensures
     (λ q on is.
     let at = subst (λ m. IsOn m q) c.requires.same_side on in

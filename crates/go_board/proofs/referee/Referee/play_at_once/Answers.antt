@@ -1,5 +1,5 @@
-use Rattle.go_board.proofs.Common.{◌-◌, length-reverse, reverse, sym, reverse-append, Earlier, ◌≡◌, ◌+◌, ◌++◌, [], ◌∷◌, false, refl, ap, ◌∙◌, arith, rules, play, newest_grid, with_next, reason_of, States, Call, side_play}
-use Rattle.go_board.proofs.EarlierLemmas.{IsRefereeKept-grown}
+use Rattle.go_board.proofs.Common.{length-reverse, sym, ◌≡◌, ◌+◌, ◌++◌, [], ◌∷◌, false, refl, ap, ◌∙◌, arith, rules, play, newest_grid, with_next, reason_of, States, Call, side_play}
+use Rattle.go_board.proofs.EarlierLemmas.{IsRefereeKept-grown, states_of-grown}
 use Rattle.go_board.proofs.TurnLemmas.{reason_of-new}
 use Rattle.go_board.proofs.referee.Referee.play_at_once.Goals as goal
 
@@ -26,10 +26,9 @@ overflow_add-self g c = omega (arith, rw length-reverse at c.self.invariant.few_
 pub returns-clause-taken : goal.returns-clause-taken
 returns-clause-taken g c = λ _.
     let was = c.self.inside in
-    let kept : Earlier = record { mover = was.mover; call = Call.Stone } in
     let past = g.P.Past.held was.past in
     let now : g.P.Past.held c.play_at_once.new.self ≡ with_next past (play (newest_grid past) c.args.colour c.in-Stone.point) false = c.if-not-play_at_once.ensures.played refl in
-    let items : c.push_reserved.new.self.items ≡ was.earlier.items ++ kept ∷ [] = search rules in
-    let newest : reverse c.push_reserved.new.self.items ≡ kept ∷ reverse was.earlier.items = ap reverse items ∙ reverse-append was.earlier.items (kept ∷ []) in
-    let turns : was.turns + 1 - 1 ≡ was.turns = omega arith in
-    rw (sym c.self.view_is, c.in-Stone.is) (simp (now, newest, c.after-self-inside.ensures.player, c.after-self-inside.ensures.passes, c.opponent.ensures, turns) (search rules))
+    let items : c.push_reserved.new.self.items ≡ was.earlier.items ++ record { mover = was.mover; call = Call.Stone } ∷ [] = search rules in
+    rw (sym c.self.view_is, c.in-Stone.is)
+    (states_of-grown past was.mover was.turns was.earlier.items Call.Stone refl (was.turns + 1) (omega arith) _ _ false _ _ now items
+    ∙ simp (c.after-self-inside.ensures.player, c.after-self-inside.ensures.passes, c.opponent.ensures))

@@ -2,5 +2,5 @@
 use Rattle.std.proofs.Common.{rules}
 use Rattle.judged_lines.proofs.judging.root.board_size.Goals as goal
 
-pub returns-in-None : goal.returns-in-None
-returns-in-None c = search rules
+pub returns : goal.returns
+returns c = search rules

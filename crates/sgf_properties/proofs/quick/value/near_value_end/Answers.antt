@@ -1,4 +1,5 @@
 use Rattle.std.proofs.Common.{◌+◌, rules}
+use Rattle.sgf_properties.proofs.NearBrackets.{lowest_found}
 use Rattle.sgf_properties.proofs.ValueUnits.{no-units, ordinary-units, bare-units, units-ended}
 use Rattle.sgf_properties.proofs.quick.value.near_value_end.Goals as goal
 use Rattle.sgf_properties.proofs.quick.value.near_value_end.Goals.{else-bracket-at-via-then-bracket-at+else-text-bracket-eq92, else-bracket-at-via-else-bracket-at}
@@ -11,4 +12,6 @@ returns-then-is_two_ordinary c =
     units-ended t at (at + 2) (ordinary-units t at at (at + 2) (no-units t at) pair.ordinary) pair.within pair.bracket
 
 pub returns : goal.returns
-returns c = search (rules, else-bracket-at-via-then-bracket-at+else-text-bracket-eq92, else-bracket-at-via-else-bracket-at, units-ended, bare-units)
+returns c =
+    let next = lowest_found c.args.text.now c.args.at c.requires c.if-found-eq0.false in
+    search (rules, next, else-bracket-at-via-then-bracket-at+else-text-bracket-eq92, else-bracket-at-via-else-bracket-at, units-ended, bare-units)

@@ -19,7 +19,7 @@ returns-then-not-stands_at-clause-read g c =
     let close = c.in_ok-text_end.field-0 in
     let end = c.skip_white_space-end in
     let values_read = c.in_ok-text_end.ensures.read in
-    let value = values_read.value.ends in
+    let value = values_read.ends in
     let Named = Copies (keeps c.args.visitor.now) (keeps c.read_name.new.visitor) t start.segment name.segment in
     let Valued = Copies (keeps c.read_name.new.visitor) (keeps c.then.new.visitor) t name.segment next in
     let Wrote = Copies (keeps c.args.visitor.now) (keeps c.then.new.visitor) t start.segment next in
@@ -41,7 +41,7 @@ values-preserved g c =
     let next = c.in_ok-segment.segment in
     let end = c.skip_white_space-end in
     let values_read = c.in_ok-text_end.ensures.read in
-    let value = values_read.value.ends in
+    let value = values_read.ends in
     let (within, bracket) = c.stands_at.ensures.stands c.if-not-stands_at.false in
     let Valued = Copies (keeps c.read_name.new.visitor) (keeps c.then.new.visitor) t name.segment next in
     let values = values-run t (Copies (keeps c.read_name.new.visitor) (keeps c.values.visitor) t name.segment read.segment) Valued name.end read.end values_read.last c.in_ok-text_end.field-0 end.result
@@ -52,7 +52,7 @@ values-preserved g c =
       after = omega (arith, c.in_ok-segment.ensures.end, end.ensures.rises);
       stands = record { within = within; bracket = bracket };
       so_far = values-more t Valued name.end end.result values within bracket;
-      kept = values_read.value.kept;
+      kept = values_read.kept;
     }
 
 pub returns-in_err-text_end-clause-fault : goal.returns-in_err-text_end-clause-fault

@@ -1,14 +1,15 @@
 use Rattle.board_past.proofs.Common.{◌≡◌, ◌≢◌, true, subst, arith, Fits-of_lt, Point, IsOn, is_set, Empty, Grid, cell_at, Held, all_of, IsPrintOfNext, IsPrintPast}
-use Rattle.board_past.proofs.AtOnceLemmas.{at_once_same}
-use Rattle.board_past.proofs.TableLemmas.{few_all, print_same, table_same}
+use Rattle.board_past.proofs.AtOnceLemmas.{past_same}
+use Rattle.board_past.proofs.RepeatLemmas.{all_stones}
+use Rattle.board_past.proofs.TableLemmas.{few_all, print_same}
 use Rattle.board_past.proofs.past.print_past.PrintPast.add.Goals as goal
-use Rattle.board_past.proofs.past.print_past.PrintPast.add.Goals.{After-add_stones, After-reserve-2, then-is_awake, else-is_awake}
+use Rattle.board_past.proofs.past.print_past.PrintPast.add.Goals.{After-add_points-2, After-reserve-2, then-is_awake, else-is_awake}
 
-abbrev next_of : After-add_stones → Held
+abbrev next_of : After-add_points-2 → Held
 next_of c = record { colouring = c.args.board.now; begins = c.args.begins }
 
 -- the print that is given
-given : (c : After-add_stones) → IsPrintOfNext (all_of c.self.inside.colourings) c.self.inside.table (next_of c) c.if-is_awake.print
+given : (c : After-add_points-2) → IsPrintOfNext (all_of c.self.inside.colourings) c.self.inside.table (next_of c) c.if-is_awake.print
 given c =
     let was = c.self.inside.colourings in
     elim c.if-is_awake.branch [
@@ -24,11 +25,7 @@ invariant_kept : (c : After-reserve-2) → IsPrintPast c.self.inside.colourings 
 invariant_kept c =
     let was = c.self.inside in
     let held = all_of was.colourings in
-    record {
-      tabled = table_same held was.table c.reserve-2.new.self (c.reserve-2.ensures.asleep held) (c.reserve-2.ensures.awake held) c.self.invariant.tabled;
-      emptied_in = c.reserve.ensures.emptied held c.self.invariant.emptied_in;
-      at_once = at_once_same was.colourings was.table c.reserve-2.new.self was.at_once_below c.reserve-2.ensures.room c.self.invariant.at_once;
-    }
+    past_same was.colourings was.table c.reserve-2.new.self was.emptied c.reserve.new.self was.at_once_below (c.reserve-2.ensures.asleep held) (c.reserve-2.ensures.awake held) c.reserve-2.ensures.room (c.reserve.ensures.emptied held) c.self.invariant
 
 pub invariant_of-self-in_err-reserve-2 : goal.invariant_of-self-in_err-reserve-2
 invariant_of-self-in_err-reserve-2 c = invariant_kept (goal.at.invariant_of-self-in_err-reserve-2 c).After-reserve-2
@@ -48,16 +45,17 @@ add-requires-2-clause-emptied c = (all_of c.self.inside.colourings, c.reserve.en
 pub push-requires : goal.push-requires
 push-requires c =
     let held = all_of c.self.inside.colourings in
-    let w = (goal.at.push-requires c).After-add_stones in
+    let w = (goal.at.push-requires c).After-add_points-2 in
     record { table = (held, next_of w, print_same held c.self.inside.table c.reserve-2.new.self (c.reserve-2.ensures.asleep held) (c.reserve-2.ensures.awake held) (next_of w) c.if-is_awake.print (given w), tt, c.in_ok-reserve-2.ensures.ok held c.len-number.ensures) }
 
 pub invariant_of-self-2 : goal.invariant_of-self-2
 invariant_of-self-2 c =
     let was = c.self.inside.colourings in
     let held = all_of was in
-    let w = (goal.at.invariant_of-self-2 c).After-add_stones in
+    let w = (goal.at.invariant_of-self-2 c).After-add_points-2 in
     let next = next_of w in
-    let stones = subst (λ (g : Grid). (q : Point) → IsOn g.side q → cell_at g q ≢ Empty → is_set c.add_stones.new.all q ≡ true) c.newest.ensures c.add_stones.ensures.stones in
+    let stones = subst (λ (g : Grid). (q : Point) → IsOn g.side q → cell_at g q ≢ Empty → is_set c.add_points-2.new.all q ≡ true) c.newest-newest.ensures
+    (all_stones c.newest-newest.result.now _ _ _ _ _ c.rows_of.ensures.are c.rows_of-2.ensures.are c.add_points.ensures.both c.add_points-2.ensures.both) in
     rw c.in_ok-add.ensures.ok (record {
       tabled = c.push.ensures.table held next (print_same held c.self.inside.table c.reserve-2.new.self (c.reserve-2.ensures.asleep held) (c.reserve-2.ensures.awake held) next c.if-is_awake.print (given w)) tt (c.in_ok-reserve-2.ensures.ok held c.len-number.ensures);
       emptied_in = c.add-2.ensures.emptied next was.newest was.older (c.reserve.ensures.emptied held c.self.invariant.emptied_in) c.len-number.ensures (λ goes_on q on some free. stones q on some);

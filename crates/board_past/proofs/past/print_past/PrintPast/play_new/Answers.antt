@@ -19,6 +19,9 @@ add_stone-requires-clause-print c =
       | else-is_awake w ↦ rw w.print-is (record { awake = tt; asleep = c.is_awake.ensures.asleep (all_of was) c.self.invariant.tabled w.if-is_awake.false })
     ]
 
+pub add_stone-requires-clause-past : goal.add_stone-requires-clause-past
+add_stone-requires-clause-past c = (c.self.inside.at_once_below, c.self.invariant)
+
 -- the rest is only there for speed
 pub returns-in_err-add_stone : goal.returns-in_err-add_stone
 returns-in_err-add_stone c =
@@ -31,15 +34,15 @@ print_after_clearing-requires-clause-print c =
 
 -- whether the stone was added or memory was refused, the number is still right
 invariant_kept : (c : After-add_stone) → IsPrintPast c.add_stone.new.colourings c.add_stone.new.table c.add_stone.new.emptied c.self.inside.at_once_below
-invariant_kept c =
-    let is = c.add_stone.ensures in
-    record { tabled = is.table; emptied_in = is.emptied; at_once = is.at_once c.self.inside.at_once_below c.self.invariant.at_once }
+invariant_kept c = c.add_stone.ensures.past c.self.inside.at_once_below c.self.invariant
 
 pub invariant_of-self : goal.invariant_of-self
 invariant_of-self c = invariant_kept (goal.at.invariant_of-self c).After-add_stone
 
 pub invariant_of-self-then-len-self : goal.invariant_of-self-then-len-self
-invariant_of-self-then-len-self c = record { tabled = c.add_stone.ensures.table; emptied_in = c.add_stone.ensures.emptied; at_once = c.at_once_below-self-inside.ensures }
+invariant_of-self-then-len-self c =
+    let is = invariant_kept (goal.at.invariant_of-self-then-len-self c).After-add_stone in
+    record { tabled = is.tabled; emptied_in = is.emptied_in; at_once = c.at_once_below-self-inside.ensures }
 
 pub invariant_of-self-else-len-self : goal.invariant_of-self-else-len-self
 invariant_of-self-else-len-self c = invariant_kept (goal.at.invariant_of-self-else-len-self c).After-add_stone

@@ -1,7 +1,7 @@
-use Rattle.board_past.proofs.Common.{◌≡◌, ◌≢◌, ◌<◌, ◌||◌, ◌==◌, not, false, ◌∷◌, [], length, length-append, ap, sym, ◌∙◌, arith, rules, or_parts, play}
+use Rattle.board_past.proofs.Common.{◌≡◌, ◌≢◌, ◌<◌, ◌||◌, ◌==◌, not, false, ◌∷◌, [], length, length-append, ap, sym, ◌∙◌, arith, rules, or_parts, get_or_past, play}
 use Rattle.board_past.proofs.ChangesLemmas.{kept_none, kept_more, kept_same, kept_rest, row_kept}
 use Rattle.board_past.proofs.past.print_past.changes.keep_played.Goals as goal
-use Rattle.board_past.proofs.past.print_past.changes.keep_played.Goals.{then-apart, else-apart}
+use Rattle.board_past.proofs.past.print_past.changes.keep_played.Goals.{then-all, else-all, then-apart, else-apart}
 
 pub loop-row-init : goal.loop-row-init
 loop-row-init c = record {
@@ -12,7 +12,10 @@ loop-row-init c = record {
 pub loop-row-preserved : goal.loop-row-preserved
 loop-row-preserved c =
     let was = c.loop-row.invariant in
-    let low : c.loop-row.row < c.args.board.now.side = omega (arith, c.rows_to_keep-row-end.ensures.few) in
+    let low : c.loop-row.row < c.args.board.now.side = elim c.if-all.branch [
+      | then-all w ↦ omega (arith, w.rows-is)
+      | else-all w ↦ omega (arith, w.rows-is, c.requires.stone.1.on_board, c.requires.stone.1.cleared.few)
+    ] in
     elim c.if-apart.branch [
       | then-apart w ↦
           let adds = w.keep_row.ensures.row in
@@ -33,7 +36,10 @@ loop-row-preserved c =
 
 pub returns : goal.returns
 returns c = λ k move.
-    let all : c.loop-row.row ≡ c.rows_to_keep-row-end.result = omega arith in
-    kept_rest (c.loop-row.invariant.kept k move) c.args.board.now.side (omega (arith, all, c.rows_to_keep-row-end.ensures.few))
-    (λ r rest low. let still = c.rows_to_keep-row-end.ensures.rest r (omega (arith, rest, all)) (omega (arith, low)) in
-    (still.0, row_kept c.args.board.now k c.args.point c.args.cleared.now r move low still.1 still.2))
+    let rows : c.loop-row.row ≡ c.if-all.rows = omega arith in
+    let side = c.args.board.now.side in
+    elim c.if-all.branch [
+      | then-all w ↦ kept_rest (c.loop-row.invariant.kept k move) side (omega (arith, rows, w.rows-is)) (λ r rest low. absurd (omega (arith, rows, w.rows-is, rest, low)))
+      | else-all w ↦ kept_rest (c.loop-row.invariant.kept k move) side (omega (arith, rows, w.rows-is, move.on_board, move.cleared.few))
+          (λ r rest low. (w.if-all.false, row_kept c.args.board.now k c.args.point c.args.cleared.now r move low (λ at. omega (arith, rows, w.rows-is, rest, at)) (get_or_past c.args.cleared.now r 0 (omega (arith, rows, w.rows-is, rest)))))
+    ]

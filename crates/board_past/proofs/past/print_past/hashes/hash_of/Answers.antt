@@ -30,5 +30,5 @@ unfolding hash_of
 returns c =
     let g = c.args.board.now in
     let all : c.loop-row.row ≡ g.side = omega (arith, c.loop-row-test.false, c.loop-row.auto.row-end, c.side-side.ensures.value, c.size.ensures) in
-    c.first_word.ensures
-    ∙ ap (λ (digest : List ℕ). from_be_bytes w64 digest) (c.finalize.ensures (rows_bytes g c.loop-row.row) c.loop-row.invariant ∙ ap (λ n. sha512 (rows_bytes g n)) all)
+    c.from_be_bytes.ensures
+    ∙ ap (λ (digest : List ℕ). from_be_bytes w64 digest) (c.finalize-digest.ensures (rows_bytes g c.loop-row.row) c.loop-row.invariant ∙ ap (λ n. sha512 (rows_bytes g n)) all)

@@ -9,8 +9,7 @@ returns c =
     let g = c.args.board.now in
     let p = c.args.point in
     let power = 31 ^ (g.side * g.side - 1 - index_of g.side p) in
-    let weight : c.power-weight.result ≡ power % m =
-    c.power-weight.ensures ∙ ap (λ n. 31 ^ n % m) (c.points_after.ensures.value ∙ ap (λ n. n * n - 1 - index_of n p) (c.side.ensures.value ∙ c.size.ensures)) in
+    let weight : c.power_of-weight.result ≡ power % m = c.power_of-weight.ensures ∙ ap (λ n. 31 ^ (n * n - 1 - index_of n p) % m) (c.side.ensures.value ∙ c.size.ensures) in
     stone_added g p (stone_of c.args.colour) c.requires.on_board c.requires.empty c.has_all_cells.ensures.all c.args.print c.match-colour.result c.requires.print
     (elim c.match-colour.branch [
       | in-Black w ↦

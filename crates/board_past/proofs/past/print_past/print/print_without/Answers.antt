@@ -13,8 +13,7 @@ returns c =
     let p = c.args.point in
     let power = 31 ^ (g.side * g.side - 1 - index_of g.side p) in
     let cell : c.at.result ≡ cell_at g p = c.at.ensures in
-    let weight : c.power-weight.result ≡ power % m =
-    c.power-weight.ensures ∙ ap (λ n. 31 ^ n % m) (c.points_after.ensures.value ∙ ap (λ n. n * n - 1 - index_of n p) (c.side.ensures.value ∙ c.size.ensures)) in
+    let weight : c.power_of-weight.result ≡ power % m = c.power_of-weight.ensures ∙ ap (λ n. 31 ^ (n * n - 1 - index_of n p) % m) (c.side.ensures.value ∙ c.size.ensures) in
     let removed : (c.match-at.result < m) × (c.match-at.result % m ≡ (code (cell_at g p) * power) % m) =
     elim c.match-at.branch [
       | in-Empty w ↦

@@ -2,8 +2,8 @@ use Rattle.std.proofs.Common.{◌≡◌, ◌≢◌, ℕ, ◌<◌, length, min, s
 use Rattle.board_past.proofs.NumberLemmas.{at-older}
 use Rattle.board_past.proofs.past.print_past.hashes.Hashes.go_back.Goals as goal
 
-pub returns : goal.returns
-returns c = λ newest older is count.
+pub returns-clause-some : goal.returns-clause-some
+returns-clause-some c = λ newest older is count.
     let old = c.args.self.now.known.items in
     let new = c.truncate.new.self.items in
     let few : length new ≡ min c.args.count (length old) = search rules in

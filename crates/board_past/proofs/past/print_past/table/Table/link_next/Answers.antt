@@ -1,5 +1,5 @@
-use Rattle.board_past.proofs.Common.{ℕ, List, refl, subst, arith, Agree, item_count, FRONT, WIDTH, all_of, bits_of, keys_of, parts_as, way_nearest}
-use Rattle.board_past.proofs.TableLemmas.{one_linked, tabled, tabled_with, found_in}
+use Rattle.board_past.proofs.Common.{ℕ, subst, arith, Agree, item_count, FRONT, WIDTH, all_of, bits_of, keys_of, parts_as, way_nearest}
+use Rattle.board_past.proofs.TableLemmas.{links_with, tabled, found_in}
 use Rattle.board_past.proofs.past.print_past.table.Table.link_next.Goals as goal
 
 pub returns-in-Some : goal.returns-in-Some
@@ -13,12 +13,8 @@ returns-in-Some c =
     let descent = c.descend-from.ensures.way WIDTH keys is.linked in
     let near = way_nearest WIDTH keys t.trie is.linked c.descend-from.result descent (omega arith) in
     let parts = parts_as near (keys (item_count t.trie)) _ c.in-Some.position apart.0 own.front (subst (λ n. Agree (bits_of c.key_of-other.result) (keys n) FRONT) c.child-near.ensures c.key_of-other.ensures.front) apart.1 apart.2 in
-    record {
-      table = tabled_with held t (record t { trie = c.insert_parted.new.self }) is refl refl refl (omega (arith, is.room, c.insert_parted.ensures.room)) (omega (arith, is.most, c.insert_parted.ensures.room)) (omega (arith, c.insert_parted.ensures.more, c.requires.unlinked.more))
-          (c.insert_parted.ensures.trie WIDTH keys FRONT is.linked (omega (arith, apart.0)) descent apart.0 parts.0 parts.1);
-      fewer = one_linked t (record t { trie = c.insert_parted.new.self }) refl refl c.insert_parted.ensures.more c.requires.unlinked.more;
-      prints = refl {A = List ℕ};
-    }
+    links_with held t t.hashes c.insert_parted.new.self is c.requires.unlinked.more c.insert_parted.ensures.room c.insert_parted.ensures.more
+    (c.insert_parted.ensures.trie WIDTH keys FRONT is.linked (omega (arith, apart.0)) descent apart.0 parts.0 parts.1)
 
 -- these two are only there for speed
 pub key_of-key-requires-clause-number : goal.key_of-key-requires-clause-number

@@ -36,7 +36,7 @@ returns c = λ newest older any.
       linked = subst (λ h. IsTrie WIDTH (keys_of h older) after.trie) (sym hashed) (linked_after t.hashed newest older after.trie few linked);
       room = omega (arith, room, is.room, print.1, all);
       most = omega (arith, room, is.most);
-      kept = c.go_back.ensures newest older (rw hashes is.kept) (omega (arith, print.1, c.len-3.ensures, c.pop.new.self.ok.0));
+      kept = c.go_back.ensures.some newest older (rw hashes is.kept) (omega (arith, print.1, c.len-3.ensures, c.pop.new.self.ok.0));
     }
     in
     inr (elim c.if-len.branch [

@@ -1,4 +1,4 @@
-use Rattle.board_past.proofs.Common.{◌<◌, ◌≤◌, ◌^◌, inl, inr, length, rules, arith, vec_capacity, nil_from_length, capacity_of}
+use Rattle.board_past.proofs.Common.{◌<◌, ◌≤◌, ◌^◌, inl, inr, refl, length, rules, arith, vec_capacity, nil_from_length, capacity_of}
 use Rattle.board_past.proofs.TableLemmas.{tabled}
 use Rattle.board_past.proofs.past.print_past.table.Table.reset.Goals as goal
 
@@ -24,5 +24,5 @@ returns c = λ first.
       room = c.room_of_both-self.ensures.trie;
       prints_room = c.room_of_both-self.ensures.prints;
       most = omega (arith, most, c.clear.ensures.room);
-      kept = c.clear-3.ensures;
+      kept = c.go_back.ensures.none refl;
     })

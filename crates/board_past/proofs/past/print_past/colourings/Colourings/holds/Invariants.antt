@@ -1,9 +1,0 @@
--- None of the numbers from that index on is the colouring.
-use Rattle.board_past.proofs.Common.{ℕ, ◌<◌, ◌≤◌, length, all_of, IsNumber}
-use Rattle.board_past.proofs.past.print_past.colourings.Colourings.holds.Given as goal
-
-abbrev pub invariant-each : goal.invariant-each
-invariant-each l = record {
-  within : l.number ≤ length (all_of l.self);
-  none : (y : ℕ) → l.number ≤ y → y < length (all_of l.self) → IsNumber (all_of l.self) y l.board → ⊥;
-}

@@ -1,6 +1,0 @@
-use Rattle.std.proofs.Common.{rules}
-use Rattle.board_past.proofs.past.print_past.hashes.Hashes.clear.Goals as goal
-
--- only there for speed
-pub returns : goal.returns
-returns c = search rules
