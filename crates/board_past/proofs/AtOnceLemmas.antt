@@ -1,5 +1,5 @@
 -- Below which number of steps a stone may be played at once.
-use Rattle.board_past.proofs.Common.{◌≡◌, ℕ, suc, ◌<◌, ◌≤◌, [], ◌∷◌, List, false, length, inl, inr, sym, ap, ◌∙◌, arith, cases_eq, false≢true, Point, is_set, Colour, has_unreaching, play, IsMove, Emptied, Table, Held, PastColourings, all_of, newest_grid, with_next, is_full, ArePlayedAtOnce, IsAsleepTable, IsAwakeTable, IsEmptied, IsPrintPast, IsTable, HasAllEmptied, has_bit-zero, settled_by_play}
+use Rattle.board_past.proofs.Common.{◌≡◌, ℕ, suc, ◌<◌, ◌≤◌, [], ◌∷◌, List, false, length, inl, inr, sym, ◌∙◌, arith, cases_eq, false≢true, Point, is_set, Colour, has_unreaching, play, IsMove, Emptied, Table, Held, PastColourings, all_of, newest_grid, with_next, is_full, ArePlayedAtOnce, IsAsleepTable, IsAwakeTable, IsEmptied, IsPrintPast, IsTable, HasAllEmptied, has_bit-zero, settled_by_play}
 use Rattle.board_past.proofs.EmptiedLemmas.{history_all, logged_more, logged_next}
 use Rattle.board_past.proofs.RepeatLemmas.{emptied_by_play}
 use Rattle.board_past.proofs.TableLemmas.{asleep_more, table_same}
@@ -20,11 +20,7 @@ at_once_same past old new below more is = record { settled = is.settled; asleep 
 -- and a past that gets more room keeps all else
 pub past_same : (past : PastColourings) (old new : Table) (one other : Emptied) (below : ℕ) → (IsAsleepTable (all_of past) old → IsAsleepTable (all_of past) new) → (IsAwakeTable (all_of past) old → IsAwakeTable (all_of past) new) → old.room_asleep ≤ new.room_asleep
     → (IsEmptied (all_of past) one → IsEmptied (all_of past) other) → IsPrintPast past old one below → IsPrintPast past new other below
-past_same past old new one other below asleep awake more emptied is = record {
-  tabled = table_same (all_of past) old new asleep awake is.tabled;
-  emptied_in = emptied is.emptied_in;
-  at_once = at_once_same past old new below more is.at_once;
-}
+past_same past old new one other below asleep awake more emptied is = grind (arith, table_same, at_once_same)
 
 -- a stone that is played: the number holds still
 pub at_once_more : (was : PastColourings) (table : Table) (below : ℕ) (k : Colour) (p : Point) → ArePlayedAtOnce was table below → ArePlayedAtOnce (with_next was (play (newest_grid was) k p) false) table below
@@ -33,15 +29,7 @@ at_once_more was table below k p is = record { settled = λ _. settled_by_play (
 -- The stone that is played at once: what is kept beside the colourings.
 module _ (was : PastColourings) (table : Table) (emptied : Emptied) (below : ℕ) (k : Colour) (p : Point) (low : length was.older < below) (is : ArePlayedAtOnce was table below) where
   pub tabled_more_at_once : (next : Held) → IsTable (all_of was) table → IsTable (next ∷ all_of was) table
-  tabled_more_at_once next tabled =
-      let some : 0 < below = omega (arith, low) in
-      let room = is.asleep some in
-      let asleep = asleep_if_room (all_of was) table below tabled some is.asleep in
-      inl (asleep_more (all_of was) table next asleep (record {
-        prints = omega (arith, low, room, asleep.prints_room);
-        trie = omega (arith, low, room, asleep.room);
-        asleep = λ _. omega (arith, low, room);
-      }))
+  tabled_more_at_once next tabled = grind (arith, asleep_if_room, asleep_more)
 
   pub emptied_more_at_once : IsMove (newest_grid was) k p [] → IsEmptied (all_of was) emptied → IsEmptied (all_of (with_next was (play (newest_grid was) k p) false)) emptied
   emptied_more_at_once move has =
@@ -52,11 +40,4 @@ module _ (was : PastColourings) (table : Table) (emptied : Emptied) (below : ℕ
 
 -- A lone stone that is taken back: the number holds still.
 pub at_once_less : (was now : PastColourings) (table : Table) (below : ℕ) → length was.older ≡ suc (length now.older) → has_unreaching (newest_grid now) ≡ false → is_full (length now.older) ≡ false → ArePlayedAtOnce was table below → ArePlayedAtOnce now table below
-at_once_less was now table below one settled step is = record {
-  settled = λ _. settled;
-  asleep = is.asleep;
-  not_full = λ count from few. elim (cases_eq count (length now.older)) [
-    | inl newest ↦ ap is_full newest ∙ step
-    | inr later ↦ is.not_full count (omega (arith, one, from, later)) few
-  ];
-}
+at_once_less was now table below one settled step is = grind (arith, cases_eq)

@@ -45,22 +45,13 @@ row_back old g c side is p on at = grind (arith, Decides-eqb, cell_at-changed, s
 other_row : (g : Grid) (c : Change) (p : Point) → IsOn g.side p → c.row ≢ p.row → cell_at (with_change g c) p ≡ cell_at g p
 other_row g c p on other = grind (arith, Decides-eqb, cell_at-changed, false_from_Decides)
 
--- a point has what stood there once a row of its own is put back, or if it had it before
-all_back : (old g : Grid) (cs : List Change) → g.side ≡ old.side → All (IsRowOf old) cs → (p : Point) → IsOn old.side p → HasRow p.row cs ⊎ (cell_at g p ≡ cell_at old p) → cell_at (after_changes g cs) p ≡ cell_at old p
-all_back old g [] side are p on (inl none) = absurd none
-all_back old g [] side are p on (inr same) = same
-all_back old g (c ∷ cs) side are p on h =
-    let here : (after_changes g cs).side ≡ old.side = after-side g cs ∙ side in
-    elim (cases_eq c.row p.row) [
-      | inl at ↦ row_back old (after_changes g cs) c here (All-head (IsRowOf old) c cs are) p on at
-      | inr other ↦
-          other_row (after_changes g cs) c p (subst (λ n. IsOn n p) (sym here) on) other
-          ∙ all_back old g cs side (All-tail (IsRowOf old) c cs are) p on (elim h [
-            | inl (inl at) ↦ absurd (other at)
-            | inl (inr later) ↦ inl later
-            | inr same ↦ inr same
-          ])
-    ]
+-- rows of a colouring leave it as it is
+unchanged : (old : Grid) (cs : List Change) → All (IsRowOf old) cs → (p : Point) → IsOn old.side p → cell_at (after_changes old cs) p ≡ cell_at old p
+unchanged old [] are p on = refl
+unchanged old (c ∷ cs) are p on = elim (cases_eq c.row p.row) [
+  | inl at ↦ row_back old (after_changes old cs) c (after-side old cs) (All-head (IsRowOf old) c cs are) p on at
+  | inr other ↦ other_row (after_changes old cs) c p (subst (λ n. IsOn n p) (sym (after-side old cs)) on) other ∙ unchanged old cs (All-tail (IsRowOf old) c cs are) p on
+]
 
 same_row : (g h : Grid) (c : Change) (p : Point) → IsOn g.side p → IsOn h.side p → c.row ≡ p.row → cell_at (with_change g c) p ≡ cell_at (with_change h c) p
 same_row g h c p on_g on_h at = grind (arith, Decides-eqb, cell_at-changed)
@@ -184,7 +175,7 @@ module _ {old new : Grid} {all : Bool} {a b : List Change} (cells : length old.c
       one_colouring (after_changes g h.more) old (after-side g h.more ∙ side) (after-length g h.more all_cells ∙ ap (λ n. n * n) (sym (after-side g h.more))) cells
       (λ p at.
       let on : IsOn old.side p = subst (λ n. IsOn n p) (after-side g h.more ∙ side) at in
-      all_back old g h.more side h.are p on (elim (each p.row on.1) [ inl there ↦ inl there | inr same ↦ inr (sym (same p.col on.0)) ]))
+      same_after g old h.more side p (subst (λ n. IsOn n p) (sym side) on) (elim (each p.row on.1) [ inl there ↦ inl there | inr same ↦ inr (sym (same p.col on.0)) ]) ∙ unchanged old h.more h.are p on)
 
   pub leads_back : new.side ≡ old.side → length new.cells ≡ new.side * new.side → after_changes new h.more ≡ old
   leads_back side new_cells = back new side new_cells (λ row low. elim (h.each row low) [ inl there ↦ inl there | inr same ↦ inr same.1 ])
@@ -209,31 +200,7 @@ module _ (g h : Grid) (cells : length g.cells ≡ g.side * g.side) (cs : List Ch
       ∙ ap (after_changes g) (ap (λ xs. xs ++ drop i all) is ∙ take-append-drop i all)
 
   pub made-more : (h' : Grid) (left' : ℕ) (c : Change) → has_bit left c.row ≡ true → h' ≡ with_change h c → has_bit left' c.row ≡ false → ((row : ℕ) → row ≢ c.row → has_bit left' row ≡ has_bit left row) → IsMade g h' (cs ++ c ∷ []) left'
-  made-more h' left' c there is gone elsewhere = record {
-    board = is ∙ ap (λ (x : Grid). with_change x c) made.board ∙ sym (one_more g cs c (made.none c.row there));
-    come = λ row low none.
-        elim (cases_eq row c.row) [
-          | inl at ↦ has_row-last row cs c (sym at)
-          | inr other ↦ has_row-front row cs c (made.come row low (sym (elsewhere row other) ∙ none))
-        ];
-    none = λ row is_left has.
-        elim (cases_eq row c.row) [
-          | inl at ↦ false≢true (sym gone ∙ ap (has_bit left') (sym at) ∙ is_left)
-          | inr other ↦
-              elim (has_row-parts row cs c has) [
-                | inl before ↦ made.none row (sym (elsewhere row other) ∙ is_left) before
-                | inr at ↦ other (sym at)
-              ]
-        ];
-  }
+  made-more h' left' c there is gone elsewhere = grind (arith, cases_eq, has_row-front, has_row-last, has_row-parts, one_more)
 
   pub made-passed : (c : Change) → c.row < g.side → has_bit left c.row ≡ false → IsMade g h (cs ++ c ∷ []) left
-  made-passed c low gone = record {
-    board = made.board ∙ sym (one_come g cells cs c (made.come c.row low gone));
-    come = λ row on none. has_row-front row cs c (made.come row on none);
-    none = λ row is_left has.
-        elim (has_row-parts row cs c has) [
-          | inl before ↦ made.none row is_left before
-          | inr at ↦ false≢true (sym gone ∙ ap (has_bit left) at ∙ is_left)
-        ];
-  }
+  made-passed c low gone = grind (arith, has_row-front, has_row-parts, one_come)

@@ -1,7 +1,8 @@
 -- Past colourings, as what is kept of them tells them.
-use Rattle.board_past.proofs.Common.{◌≡◌, ◌≢◌, ◌↔◌, ◌==◌, ℕ, zero, suc, ◌+◌, ◌-◌, ◌*◌, ◌%◌, ◌^◌, ◌<◌, ◌≤◌, inl, inr, List, [], ◌∷◌, ◌++◌, Bool, true, false, cond, length, get_or, take, drop, reverse, slice_range, slice_set, append_assoc, refl, sym, ap, subst, ◌∙◌, arith, length-take, length-append, IsTrue, IsFalse, Contains, length-set, take_all, take_at, drop_at, drop-drop, take-take, append-nil, eq-eqb, ne_eqb, cases_eq, false≢true, take_more, drop-set, drop_all, reverse-append, length-reverse, get_or-reverse, get_or_default, All-take, All-drop, All-append, Point, IsOn, index_of, Empty, has_unreaching, Grid, cell_at, with_cell, Change, Older, Held, PastColourings, all_of, with_next, stretch_of, first_grid, after_changes, step_back, is_full, is_settled, is_fresh, HasRoom, IsEndOf, IsNumber, IsFreshStone, KeepRows, IsChangeOn, MakeOne, before, changes_before, held_before, all_held, AreFresh, AreKept, AreStarted, AreOn, IsPast, start_of, since, print_of, prints_of, same_or_not, cell_at-with_cell, cell_at-with_cell_elsewhere}
+use Rattle.board_past.proofs.Common.{◌≡◌, ◌≢◌, ◌↔◌, ◌==◌, ℕ, zero, suc, ◌+◌, ◌-◌, ◌*◌, ◌%◌, ◌^◌, ◌<◌, ◌≤◌, inl, inr, List, [], ◌∷◌, ◌++◌, Bool, true, false, cond, length, get_or, take, drop, reverse, slice_range, slice_set, append_assoc, refl, sym, ap, subst, ◌∙◌, arith, length-take, length-append, IsTrue, IsFalse, Contains, length-set, take_all, take_at, drop_at, drop-drop, take-take, append-nil, eq-eqb, ne_eqb, cases_eq, false≢true, take_more, drop-set, drop_all, reverse-append, length-reverse, get_or-reverse, get_or_default, All-take, All-drop, All-append, Point, IsOn, index_of, Empty, has_unreaching, Grid, cell_at, with_cell, Change, Older, Held, PastColourings, all_of, with_next, stretch_of, first_grid, after_changes, step_back, is_full, is_settled, is_fresh, HasRoom, IsNumber, IsFreshStone, KeepRows, IsChangeOn, MakeOne, before, changes_before, held_before, all_held, AreFresh, AreKept, AreStarted, AreOn, IsPast, start_of, since, print_of, prints_of, same_or_not, cell_at-with_cell, cell_at-with_cell_elsewhere}
 use Rattle.std.proofs.lemmas.Slice.{between_is}
 use Rattle.board_past.specs.declared.past.print_past.changes.TheConstants.{MOST}
+use Rattle.board_past.proofs.ListPastLemmas.{Contains-cases}
 use Rattle.board_past.proofs.ChangesLemmas.{step-side, leads_back, makes_one, kept_on}
 
 -- a stretch starts no later than at the newest colouring
@@ -187,11 +188,7 @@ module _ (held : List Held) (older : List Older) (changes : List Change) (number
 
   -- the colourings, of which the newest is split off
   whole-back : drop (length older - number) held ≡ record { colouring = board; begins = start == suc (length (reverse front)) } ∷ all_held (step_back board one newest_changes) one.stretch_start (reverse front) (take one.start changes)
-  whole-back =
-      at.whole
-      ∙ ap (λ (os : List Older). all_held board start os (take end changes)) turned_back
-      ∙ ap (λ (cs : List Change). record { colouring = board; begins = start == suc (length (reverse front)) } ∷ all_held (step_back board one cs) one.stretch_start (reverse front) (changes_before one (take end changes))) same_newest
-      ∙ ap (λ (cs : List Change). record { colouring = board; begins = start == suc (length (reverse front)) } ∷ all_held (step_back board one newest_changes) one.stretch_start (reverse front) cs) same_rest
+  whole-back = rw (turned_back, same_newest, same_rest) at at.whole
 
   there-back : IsThere held older changes (number - 1) one.start one.stretch_start (step_back board one newest_changes)
   there-back =
@@ -235,11 +232,7 @@ module _ (held : List Held) (older : List Older) (changes : List Change) (number
 
 -- the newest one is there
 pub there-newest : (g : Grid) (start : ℕ) (older : List Older) (changes : List Change) (held : List Held) (number end : ℕ) → all_held g start (reverse older) changes ≡ held → number ≡ length older → end ≡ length changes → IsPast g start older changes → IsThere held older changes number end start g
-there-newest g start older changes held number end same is is_end past =
-    let none : length older - number ≡ 0 = omega arith in
-    let whole : take number older ≡ older = take_all number older (omega arith) in
-    let all_changes : take end changes ≡ changes = take_all end changes (omega arith) in
-    record { past = rw (whole, all_changes) past; whole = rw (none, whole, all_changes) (sym same); within = omega arith }
+there-newest g start older changes held number end same is is_end past = grind (arith, take_all)
 
 -- that some colouring of the grid's side is there
 abbrev pub IsSomeThere : Grid → List Held → List Older → List Change → ℕ → ℕ → Type 0
@@ -263,20 +256,15 @@ there-all held older changes start newest at (suc less) number d is =
     there-before newest held older changes (number + 1) _ number d refl (omega arith) (there-all held older changes start newest at less (number + 1) d (omega arith))
 
 -- so from the number at which a look back begins, the colouring of that number is there
-pub there-from : (newest : Grid) (start : ℕ) (older : List Older) (changes : List Change) (held : List Held) → all_held newest start (reverse older) changes ≡ held → IsPast newest start older changes → (number end count : ℕ) (d : Older) → number < length older → count ≡ length changes → IsEndOf older count number end
-    → IsSomeThere newest held older changes number end
-there-from newest start older changes held same past number end count d lt is_count ends =
+pub there-from : (newest : Grid) (start : ℕ) (older : List Older) (changes : List Change) (held : List Held) → all_held newest start (reverse older) changes ≡ held → IsPast newest start older changes → (number : ℕ) (one : Older) → number < length older → one ≡ get_or older number one
+    → IsSomeThere newest held older changes number one.start
+there-from newest start older changes held same past number one low is_one =
     let at = there-newest newest start older changes held (length older) (length changes) same refl refl past in
-    let up = there-all held older changes start newest at (length older - number - 1) number d (omega arith) in
-    subst (λ e. IsSomeThere newest held older changes number e) (sym (ends.1 d lt)) up
+    subst (λ (o : Older). IsSomeThere newest held older changes number o.start) (sym is_one) (there-all held older changes start newest at (length older - number - 1) number one (omega arith))
 
 -- what a colouring that isn't the first one tells
 pub contains-others : (x : Grid) (xs : List Grid) (made : Grid) → x ≢ made → Contains (x ∷ xs) made ↔ Contains xs made
-contains-others x xs made other = (others, λ has. (suc has.0, omega (arith, has.1), has.2))
-  where
-    others : Contains (x ∷ xs) made → Contains xs made
-    others (zero, h, e) = absurd (other e)
-    others (suc j, h, e) = (j, omega (arith, h), e)
+contains-others x xs made other = (λ has. elim (Contains-cases x made xs has) [ inl same ↦ absurd (other same) | inr later ↦ later ], λ has. (suc has.0, omega (arith, has.1), has.2))
 
 -- Going back from the newest colouring over steps that only put stones: no colouring on the way has a stone where the newest has none. So one
 -- that has a stone there can only be in the stretch of the number at which one is.
@@ -320,16 +308,11 @@ module _ (held : List Held) (older : List Older) (changes : List Change) (start 
         (contains-others at.board (stretch_of (drop (length older - (number - 1)) held)) made (λ e. stone (ap (λ (g : Grid). cell_at g point) (sym e) ∙ at.fewer point on empty))).0
         (subst (λ (gs : List Grid). Contains gs made) look.stretch (at.rest made stone has))
 
-    -- a fresh stone is on the newest colouring
-    pub fresh_on : is_fresh one.known ≡ true → IsOn newest.side one.point
-    fresh_on is = subst (λ n. IsOn n one.point) at.side (look.point is)
-
-    pub fresh_there : is_fresh one.known ≡ true → cell_at newest one.point ≢ Empty
-    fresh_there is = λ free. look.stone is (at.fewer one.point (fresh_on is) free)
-
-    -- and before it no colouring has it
-    pub passed_fresh : is_fresh one.known ≡ true → (made : Grid) → cell_at made point ≢ Empty → cell_at made one.point ≢ Empty → Contains (stretch_of held) made → ⊥
-    passed_fresh is made stone fresh has = fresh (look.new is made (earlier made stone has))
+    -- a fresh stone is on the newest colouring, and before it no colouring has it
+    pub passed_fresh : is_fresh one.known ≡ true → IsOn newest.side one.point × (cell_at newest one.point ≢ Empty) × ((made : Grid) → cell_at made point ≢ Empty → cell_at made one.point ≢ Empty → Contains (stretch_of held) made → ⊥)
+    passed_fresh is =
+        let on_newest : IsOn newest.side one.point = subst (λ n. IsOn n one.point) at.side (look.point is) in
+        (on_newest, λ free. look.stone is (at.fewer one.point on_newest free), λ made stone fresh has. fresh (look.new is made (earlier made stone has)))
 
     -- a step that only put a stone is passed
     pub passed_one : one.alone ≡ true → IsPassed held older changes start (number - 1) newest point
@@ -361,10 +344,11 @@ pub record IsFullStep (held : List Held) (older : List Older) (changes : List Ch
   pub there : IsThere held older changes (from - 1) one.start one.stretch_start (after_changes board (slice_range changes one.start end))
 
 pub there-full : (newest board : Grid) (start : ℕ) (older : List Older) (changes : List Change) (held : List Held) → all_held newest start (reverse older) changes ≡ held → IsPast newest start older changes → board ≡ newest → length board.cells ≡ board.side * board.side
-    → (from end count : ℕ) (one : Older) → 0 < from → from < length older → IsTrue (is_full (from - 1)) → count ≡ length changes → IsEndOf older count from end → one ≡ get_or older (from - 1) one
-    → IsFullStep held older changes from end board one
-there-full newest board start older changes held same past is cells from end count one some low full is_count ends is_one =
-    let at = there-from newest start older changes held same past from end count one low is_count ends in
+    → (from : ℕ) (next one : Older) → 0 < from → from < length older → IsTrue (is_full (from - 1)) → next ≡ get_or older from next → one ≡ get_or older (from - 1) one
+    → IsFullStep held older changes from next.start board one
+there-full newest board start older changes held same past is cells from next one some low full is_next is_one =
+    let end = next.start in
+    let at = there-from newest start older changes held same past from next low is_next in
     let step = step-from held older changes from end at.0 at.1 one some (omega (arith, low)) is_one at.3 in
     let steps = slice_range changes one.start end in
     let side : board.side ≡ at.1.side = ap (λ (g : Grid). g.side) is ∙ sym at.2 in

@@ -6,7 +6,7 @@ pub use Rattle.std.proofs.lemmas.List.{drop-set, drop_all, get_or-reverse, get_o
 pub use Rattle.std.proofs.lemmas.List.Elements.{All-append, All-drop, All-get_or, All-head, All-nil, All-push, All-tail, All-take, All-weaker, Contains-append_right}
 pub use Rattle.std.proofs.lemmas.Nat.Bits.{bit_at-suc, bit_at-trailing_zeros, bit_at-zero, bit_at_cat_high, bit_at_cat_low, bit_at_lowest, same_from_bits, same_from_bits_below}
 pub use Rattle.std.proofs.lemmas.Option.{same_Some}
-pub use Rattle.std.proofs.Common.{[], add-mul, All, ap, append-nil, append_assoc, arith, below_more, bit_and, bit_or, bit_xor, Bool, cond, Contains, drop, drop-drop, drop_at, eq-eqb, false, fold, get_or, get_or-set_other, get_or-set_same, IfNone, IfSome, if◌then◌else◌, inl, inr, IsErr, IsFalse, IsTrue, length, length-append, length-set, length-take, List, lt-ltb, map, min, mul-add, ne_eqb, None, not, Ok, Option, option_to_list, pow-add, pow_pos, refl, Result, reverse, rules, set, set-set, slice_index, slice_range, slice_set, Some, subst, suc, suc-mul, sym, take, take-append-drop, take-take, take_all, take_at, true, vec_capacity, w64, zero, ℕ, ◌%◌, ◌&&◌, ◌*◌, ◌++◌, ◌+◌, ◌-◌, ◌/◌, ◌<◌, ◌==◌, ◌^◌, ◌||◌, ◌↔◌, ◌∙◌, ◌∷◌, ◌≡◌, ◌≢◌, ◌≤◌, ◌⊎◌}
+pub use Rattle.std.proofs.Common.{[], add-mul, All, ap, append-nil, append_assoc, arith, below_more, bit_and, bit_or, bit_xor, Bool, cond, Contains, drop, drop-drop, drop_at, eq-eqb, false, fold, get_or, get_or-set_other, get_or-set_same, IfNone, IfSome, if◌then◌else◌, inl, inr, IsErr, IsFalse, IsTrue, length, length-append, length-set, length-take, List, lt-ltb, map, mul-add, ne_eqb, None, not, Ok, Option, option_to_list, pow-add, pow_pos, refl, Result, reverse, rules, set, set-set, slice_index, slice_range, slice_set, Some, subst, suc, suc-mul, sym, take, take-append-drop, take-take, take_all, take_at, true, vec_capacity, w64, zero, ℕ, ◌%◌, ◌&&◌, ◌*◌, ◌++◌, ◌+◌, ◌-◌, ◌/◌, ◌<◌, ◌==◌, ◌^◌, ◌||◌, ◌↔◌, ◌∙◌, ◌∷◌, ◌≡◌, ◌≢◌, ◌≤◌, ◌⊎◌}
 pub use Rattle.std.proofs.lemmas.Grind.{common_steps, get_or_default_zero}
 pub use Rattle.std.proofs.lemmas.Nat.{mul-mod, mod_below, mul-mod_second, shr_split}
 pub use Rattle.std.proofs.Math.Nat.{add-mod-mod, mod-add-div, add-mul-mod_self_left, mod-add-mod, pow-succ', zero-mod}
@@ -41,7 +41,7 @@ pub use Rattle.board_past.specs.declared.past.print_past.emptied.OldRow.{OldRow}
 pub use Rattle.board_past.specs.declared.past.print_past.key.TheConstants.{FRONT, WIDTH}
 pub use Rattle.board_past.specs.declared.past.print_past.table.Table.{Table}
 pub use Rattle.board_past.specs.Past.{all_of, AllHaveSide, HaveSide, Held, IsPlayed, newest_grid, PastColourings, present_stretch, stretch_of, WasEmptied, with_next}
-pub use Rattle.board_past.specs.inner.Changes.{AddsRow, after_changes, all_held, AreFresh, AreKept, AreOn, AreStarted, before, changes_before, first_grid, HasNumber, HasRoom, HasRow, held_before, is_fresh, is_full, is_settled, IsChangeOn, IsEndOf, IsFreshStone, IsNumber, IsPast, IsRowOf, IsSameRow, KeepRows, MakeOne, step_back, with_change}
+pub use Rattle.board_past.specs.inner.Changes.{AddsRow, after_changes, all_held, AreFresh, AreKept, AreOn, AreStarted, before, changes_before, first_grid, HasNumber, HasRoom, HasRow, held_before, is_fresh, is_full, is_settled, IsChangeOn, IsFreshStone, IsNumber, IsPast, IsRowOf, IsSameRow, KeepRows, MakeOne, step_back, with_change}
 pub use Rattle.board_past.specs.inner.Emptied.{ArePlayedAtOnce, HasAllEmptied, HasEmptied, HasHistory, HasRowsBelow, IsBelow, IsEmptied, IsLogged, IsPrintPast}
 pub use Rattle.board_past.specs.inner.Hash.{columns_bytes, columns_of, HasHashes, number_of, rows_bytes}
 unfoldable pub use Rattle.board_past.specs.inner.Hash.{hash_of}

@@ -90,18 +90,11 @@ logged_back held now new last from rows log is =
 
 -- a step, once the set has what it empties
 pub logged_next : (held : List Held) (next : Held) (emptied : Emptied) → HasAllEmptied (is_set emptied.rows) (next ∷ held) → IsLogged held (length held + 1) emptied → IsEmptied (next ∷ held) emptied
-logged_next held next emptied all is = record {
-  rows = is.rows;
-  inside = is.inside;
-  history = history_next emptied.rows (reverse emptied.log.items) next held is.history all;
-  below = below_more (reverse emptied.log.items) (length held + 1) (length (next ∷ held)) (omega arith) is.below;
-}
+logged_next held next emptied all is = grind (arith, below_more, history_next)
 
 -- a step to be taken back
 pub logged_tail : (newest : Held) (older : List Held) (emptied : Emptied) → IsEmptied (newest ∷ older) emptied → IsLogged older (length older + 1) emptied
-logged_tail newest older emptied is =
-    let below = below_more (reverse emptied.log.items) (length (newest ∷ older)) (length older + 1) (omega arith) is.below in
-    record { rows = is.rows; inside = is.inside; history = history_tail emptied.rows (reverse emptied.log.items) newest older below is.history; below = below }
+logged_tail newest older emptied is = grind (arith, below_more, history_tail)
 
 -- the rows below `row` got their points
 pub record IsAddedBelow (old : Emptied) (points : List ℕ) (number row : ℕ) (new : Emptied) : Type 0 where

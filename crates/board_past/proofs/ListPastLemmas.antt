@@ -2,7 +2,7 @@
 use Rattle.board_past.proofs.Common.{◌≡◌, ◌≢◌, ℕ, ◌+◌, ◌<◌, ◌⊎◌, true, false, List, [], ◌∷◌, length, get_or, take, reverse, Bool, Contains, ap, ◌∙◌, arith, cond, reverse-append, take_more, Contains-append_right, Grid, Held, stretch_of}
 
 -- a list has its first element, what the rest has, and nothing else
-Contains-cases : (x y : Grid) (xs : List Grid) → Contains (x ∷ xs) y → (x ≡ y) ⊎ Contains xs y
+pub Contains-cases : (x y : Grid) (xs : List Grid) → Contains (x ∷ xs) y → (x ≡ y) ⊎ Contains xs y
 Contains-cases x y xs given = grind arith
 
 -- a stretch goes on after its first colouring only if that doesn't begin it

@@ -51,16 +51,16 @@ module _ (g : Grid) (k : Colour) (p : Point) (rows : List ℕ) (all : length g.c
   pub stone_left : (q : Point) → IsOn g.side q → cell_at g q ≢ Empty → is_set rows q ≡ false → cell_at (play g k p) q ≢ Empty
   stone_left q on there stays = grind (arith, cell_at-with_cell_elsewhere, false≢true)
 
+-- a stone on a point where no colouring of the present stretch has one makes none of them
+pub never_back : (past : PastColourings) (k : Colour) (p : Point) → IsFreshStone (with_next past (play (newest_grid past) k p) false) p → Contains (present_stretch past) (play (newest_grid past) k p) → ⊥
+never_back past k p fresh has = fresh.there (fresh.new (play (newest_grid past) k p) has)
+
 -- A stone that stays on a point that isn't in the set: no colouring of the present stretch has a stone there.
 module _ (past : PastColourings) (k : Colour) (p : Point) (rows emptied : List ℕ) (all : length (newest_grid past).cells ≡ (newest_grid past).side * (newest_grid past).side) (sides : HaveSide (newest_grid past).side past) (kept : HasAllEmptied (is_set emptied) (all_of past)) (move : IsMove (newest_grid past) k p rows) (fresh : is_set emptied p ≡ false) (stays : is_set rows p ≡ false) where
   none_there : (made : Grid) → cell_at made p ≢ Empty → Contains (present_stretch past) made → ⊥
   none_there made stone has =
       let was = emptied-if_back p made (newest_grid past) (cond past.newest.begins [] (stretch_of past.older)) move.empty stone has in
       false≢true (sym fresh ∙ was_in_set (is_set emptied) (newest_grid past).side p move.on_board (all_of past) sides kept was)
-
-  -- so it makes none of them
-  pub never_back : Contains (present_stretch past) (play (newest_grid past) k p) → ⊥
-  never_back = none_there (play (newest_grid past) k p) (stone_put (newest_grid past) k p rows all move stays)
 
   pub fresh_stone_put : IsFreshStone (with_next past (play (newest_grid past) k p) false) p
   fresh_stone_put = grind (arith, Decides-same_cell, cases_Bool, false≢true, none_there, side_play, stone_put)

@@ -1,7 +1,6 @@
 -- The table by which colourings are looked up.
 use Rattle.board_past.proofs.Common.{◌≡◌, ℕ, ◌+◌, ◌*◌, ◌<◌, ◌≤◌, ◌^◌, bit_xor, Bool, true, false, if◌then◌else◌, List, [], ◌∷◌, ◌++◌, Option, None, Some, IfSome, length, length-append, get_or, reverse, Contains, inl, inr, refl, sym, ap, subst, ◌∙◌, arith, eq-eqb, ne_eqb, bit_at, cases_Bool, reverse-append, same_Some, Point, has_bit, Trie, Agree, nodes_of, item_count, capacity_of, IsTrie, IsNearest, IsOpening, IsParting, Colour, play, Grid, WIDTH, Table, Held, PastColourings, all_of, newest_grid, present_stretch, stretch_of, with_next, IsNumber, hash_of, HasHashes, hash_in_key, key_bits, start_of, since, keys_of, print_of, prints_of, HasRoomForNext, IsAsleepTable, IsAwakeTable, IsGap, IsPrintOfNext, IsTable, LinksNext, most_to_link, vec_capacity, GrowsTable, agree_self, agree_less, parts_as, trie_same, opening_same, IsWayTo, child_at, way_nearest}
 use Rattle.board_past.specs.declared.past.print_past.table.Gap.{Gap}
-use Rattle.board_past.specs.declared.past.print_past.hashes.Hashes.{Hashes}
 use Rattle.key_trie.specs.declared.trie.Slot.{Slot}
 use Rattle.board_past.proofs.NumberLemmas.{since-newest, since-older, at-newest, at-older, cases-number, start-since, start-before}
 pub use Rattle.board_past.proofs.NumberLemmas.{number_there, side-number, has_number, has_colouring}
@@ -115,44 +114,27 @@ found_in {key} {end} {child} {slot} held table is way within at =
 -- the same prints, and a trie of as many colourings or of more
 pub tabled_with : (held : List Held) (table after : Table) → IsAwakeTable held table → after.prints.items ≡ table.prints.items → after.hashes ≡ table.hashes → after.room_asleep ≡ table.room_asleep
     → length table.prints.items ≤ capacity_of after.trie → capacity_of after.trie < 2 ^ 32 → item_count after.trie ≤ length table.prints.items → IsTrie WIDTH (keys_of after.hashed held) after.trie → IsAwakeTable held after
-tabled_with held table after is prints hashes awake room most few trie = record {
-  awake = awake ∙ is.awake;
-  printed = rw prints is.printed;
-  few = rw prints few;
-  linked = trie;
-  room = rw prints room;
-  most = most;
-  kept = rw hashes is.kept;
-}
+tabled_with held table after is prints hashes awake room most few trie = grind arith
 
 -- one colouring more is in the trie, and keys stay as they are
 one_linked : (old new : Table) → new.prints.items ≡ old.prints.items → new.hashed ≡ old.hashed → item_count new.trie ≡ item_count old.trie + 1 → item_count old.trie < length old.prints.items → most_to_link new < most_to_link old
-one_linked old new prints hashed next more = elim (cases_Bool old.hashed) [
-  | inl on ↦ rw (prints, hashed, on) (omega (arith, next, more))
-  | inr off ↦ rw (prints, hashed, off) (omega (arith, next, more))
-]
+one_linked old new prints hashed next more = grind (arith, cases_Bool)
 
 -- keys get hashes, and no colouring is in the trie
 pub all_anew : (old new : Table) → new.prints.items ≡ old.prints.items → old.hashed ≡ false → new.hashed ≡ true → most_to_link new < most_to_link old
 all_anew old new prints off on = rw (prints, off, on) (omega arith)
 
 -- the hashes that are kept are right once there is one colouring more
-pub hashes_more : (next : Held) (held : List Held) (hashes : Hashes) → HasHashes held hashes → HasHashes (next ∷ held) hashes
-hashes_more next held hashes is = record {
-  few = omega (arith, is.few);
-  right = λ number g low at some. elim (cases-number next held number g (omega (arith, low, is.few)) at) [
-    | inl newest ↦ absurd (omega (arith, newest.0, low, is.few))
-    | inr older ↦ is.right number g low older.1 some
-  ];
-}
+pub hashes_more : (next : Held) (held : List Held) (hashes : List ℕ) → HasHashes held hashes → HasHashes (next ∷ held) hashes
+hashes_more next held hashes is = grind (arith, cases-number)
 
 -- one colouring more is in the trie, and other hashes may be kept
-pub links_with : (held : List Held) (old : Table) (hashes : Hashes) (trie : Trie) → IsAwakeTable held (record old { hashes = hashes }) → item_count old.trie < length old.prints.items
-    → capacity_of trie ≡ capacity_of old.trie → item_count trie ≡ item_count old.trie + 1 → IsTrie WIDTH (keys_of old.hashed held) trie → LinksNext held old (record old { trie = trie; hashes = hashes })
-links_with held old hashes trie is more room next linked =
-    let new = record old { trie = trie; hashes = hashes } in
+pub links_with : (held : List Held) (old hashing : Table) (trie : Trie) → IsAwakeTable held (record old { hashes = hashing.hashes }) → item_count old.trie < length old.prints.items
+    → capacity_of trie ≡ capacity_of old.trie → item_count trie ≡ item_count old.trie + 1 → IsTrie WIDTH (keys_of old.hashed held) trie → LinksNext held old (record old { trie = trie; hashes = hashing.hashes })
+links_with held old hashing trie is more room next linked =
+    let new = record old { trie = trie; hashes = hashing.hashes } in
     record {
-      table = tabled_with held (record old { hashes = hashes }) new is refl refl refl (omega (arith, is.room, room)) (omega (arith, is.most, room)) (omega (arith, next, more)) linked;
+      table = tabled_with held (record old { hashes = hashing.hashes }) new is refl refl refl (omega (arith, is.room, room)) (omega (arith, is.most, room)) (omega (arith, next, more)) linked;
       fewer = one_linked old new refl refl next more;
       prints = refl {A = List ℕ};
     }
@@ -163,32 +145,12 @@ at_number held number one other at too = ap hash_of (same_Some one other (sym at
 
 -- one colouring more
 pub tabled_more : (held : List Held) (table after : Table) (next : Held) (print : ℕ) → IsAwakeTable held table → print ≡ print_of next.colouring → after.prints.items ≡ table.prints.items ++ print ∷ [] → after.room_asleep ≡ table.room_asleep
-    → length table.prints.items < capacity_of after.trie → capacity_of after.trie < 2 ^ 32 → item_count after.trie ≤ length table.prints.items + 1 → IsTrie WIDTH (keys_of after.hashed (next ∷ held)) after.trie → HasHashes (next ∷ held) after.hashes → IsAwakeTable (next ∷ held) after
-tabled_more held table after next print is printed pushed awake room most few trie kept =
-    let count : length after.prints.items ≡ length table.prints.items + 1 = ap (λ (xs : List ℕ). length xs) pushed ∙ length-append table.prints.items (print ∷ []) in
-    record {
-      awake = awake ∙ is.awake;
-      printed = ap (λ (xs : List ℕ). reverse xs) pushed ∙ reverse-append table.prints.items (print ∷ [])
-          ∙ ap (λ n. n ∷ reverse table.prints.items) printed ∙ ap (λ (xs : List ℕ). print_of next.colouring ∷ xs) is.printed;
-      few = omega (arith, count, few);
-      linked = trie;
-      room = omega (arith, count, room);
-      most = most;
-      kept = kept;
-    }
+    → length table.prints.items < capacity_of after.trie → capacity_of after.trie < 2 ^ 32 → item_count after.trie ≤ length table.prints.items + 1 → IsTrie WIDTH (keys_of after.hashed (next ∷ held)) after.trie → HasHashes (next ∷ held) after.hashes.items → IsAwakeTable (next ∷ held) after
+tabled_more held table after next print is printed pushed awake room most few trie kept = grind (arith, length-append, reverse-append)
 
 -- a table that sleeps has none of its colourings, so it sleeps with any others that it has room for
 asleep_with : (held other : List Held) (table : Table) → length other ≤ table.room_asleep → IsAsleepTable held table → IsAsleepTable other table
-asleep_with held other table fits is = record {
-  asleep = is.asleep;
-  fits = fits;
-  no_prints = is.no_prints;
-  no_items = is.no_items;
-  room = is.room;
-  prints_room = is.prints_room;
-  most = is.most;
-  kept = is.kept;
-}
+asleep_with held other table fits is = grind arith
 
 pub asleep_more : (held : List Held) (table : Table) (next : Held) → IsAsleepTable held table → HasRoomForNext held table → IsAsleepTable (next ∷ held) table
 asleep_more held table next is room = asleep_with held (next ∷ held) table (omega (arith, room.asleep is.asleep)) is
@@ -241,16 +203,7 @@ module _ (held : List Held) (old new : Table) (asleep : IsAsleepTable held old �
 
 -- a sleeping table is still right if it only gets more room; it may count on `room` if the trie and the prints have that
 pub asleep_grown : (held : List Held) (old new : Table) (room : ℕ) → GrowsTable old new → old.room_asleep ≤ room → room ≤ capacity_of new.trie → room ≤ vec_capacity new.prints → IsAsleepTable held old → IsAsleepTable held (record new { room_asleep = room })
-asleep_grown held old new room grows more trie prints is = record {
-  asleep = omega (arith, is.asleep, more);
-  fits = omega (arith, is.fits, more);
-  no_prints = grows.prints ∙ is.no_prints;
-  no_items = grows.nodes ∙ is.no_items;
-  room = trie;
-  prints_room = prints;
-  most = grows.most;
-  kept = rw grows.hashes is.kept;
-}
+asleep_grown held old new room grows more trie prints is = grind arith
 
 -- so is an awake one
 pub awake_grown : (held : List Held) (old new : Table) → GrowsTable old new → IsAwakeTable held old → IsAwakeTable held new
@@ -274,17 +227,7 @@ sleeps held table (inr is) none some = absurd (omega (arith, none, some, tabled 
 
 -- a table that got its prints
 pub awoken : (held : List Held) (old new : Table) → IsAsleepTable held old → reverse new.prints.items ≡ prints_of held → new.trie ≡ old.trie → new.hashes ≡ old.hashes → new.room_asleep ≡ 0 → IsAwakeTable held new
-awoken held old new is printed trie hashes awake =
-    let none : item_count new.trie ≡ 0 = ap item_count trie ∙ ap length is.no_items in
-    record {
-      awake = awake;
-      printed = printed;
-      few = omega (arith, none);
-      linked = rw trie (rw is.no_items refl);
-      room = omega (arith, ap capacity_of trie, is.fits, is.room, same_length held new.prints.items printed);
-      most = omega (arith, ap capacity_of trie, is.most);
-      kept = rw hashes (is.kept held);
-    }
+awoken held old new is printed trie hashes awake = grind (arith, same_length)
 
 -- a table with prints is awake
 pub with_prints : (held : List Held) (table : Table) → IsTable held table → 0 < length table.prints.items → IsAwakeTable held table

@@ -14,7 +14,7 @@
 //! | Rule (docs/RULES.md) | Function, and its module |
 //! |---|---|
 //! | positional superko (suicide of one stone is a case of it) | in a run `PrintPast::play_asked`, if a stone may repeat a colouring (`may_repeat`, or suicide), and `play_on_copy` after a setup that leaves a stone without a liberty (`past/print_past`); the plain way is `Past::play` (`past`) |
-//! | the colourings that it looks at: those since the last setup of stones | `ListPast::holds`, `stretch_has` (`past/list_past`); what a run uses: `Colourings::newest_steps_show_new` and `Colourings::look_back` (`past/print_past/colourings`), which go over the newest ones, and if these don't tell, `Table::gap`, which finds that no print is the same, or else a colouring of that print, which `Colourings::has_near` compares, and then `Table::gap_by_board` (`past/print_past/table`). Each that finds the colouring looks from `Colourings::stretch_start` on |
+//! | the colourings that it looks at: those since the last setup of stones | `ListPast::holds`, `stretch_has` (`past/list_past`); what a run uses: `Colourings::newest_steps_show_new` and `Colourings::look_back` (`past/print_past/colourings`), which go over the newest ones, and if these don't tell, `Table::gap`, which finds that no print is the same, or else a colouring of that print, which `Colourings::has_near` compares, and then `Table::gap_by_key` (`past/print_past/table`). Each that finds the colouring looks from `Colourings::stretch_start` on |
 //! | the list of colourings begins anew with a setup | `Past::set_up` (`past`), and in a run `PrintPast::set_up` (`past/print_past`) |
 //!
 //! A past takes memory in `new`, `push`, `restart`, `play` and `set_up`. Besides these calls only `reset` may take memory, and only if the past

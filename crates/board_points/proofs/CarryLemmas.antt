@@ -1,7 +1,5 @@
 -- Widening a set of columns: a sum carries from a column on as far as there is region, and steps go back from there.
-use Rattle.board_points.proofs.Common.{◌≡◌, ◌⊎◌, inl, inr, ℕ, zero, suc, ◌+◌, ◌-◌, ◌*◌, ◌/◌, ◌%◌, ◌^◌, ◌<◌, ◌≤◌, ◌≢◌, ◌&&◌, Bool, true, false, not, bit_and, bit_or, w64, sym, ap, ◌∙◌, arith, rules, mod-eq_of_lt, pow_pos, bit_at, bit_not, trailing_zeros, and-false, or_cases, or_left, or_right, and_parts, and_from, false≢true, cases_lt, cases_Bool, common_steps, mod-pow-add, mod_below, has_bit, IsPart, HasBeside, HasNext, IsWidened, two-pow-succ}
-use Rattle.std.proofs.Common.{bit_xor}
-use Rattle.std.proofs.Math.Nat.{add-mod, add-mod_left}
+use Rattle.board_points.proofs.Common.{◌≡◌, ◌⊎◌, inl, inr, ℕ, zero, suc, ◌+◌, ◌-◌, ◌*◌, ◌/◌, ◌%◌, ◌^◌, ◌<◌, ◌≤◌, ◌≢◌, ◌&&◌, Bool, true, false, not, bit_and, bit_or, w64, sym, ap, ◌∙◌, arith, rules, mod-eq_of_lt, pow_pos, bit_at, bit_not, trailing_zeros, and-false, or_cases, or_left, or_right, and_parts, and_from, false≢true, cases_lt, cases_Bool, common_steps, mod-pow-add, mod_below, has_bit, IsPart, HasBeside, HasNext, IsWidened, two-pow-succ, bit_xor, add-mod, add-mod_left}
 use Rattle.board_points.proofs.WordLemmas.{has_bit_apart, has_bit-or, has_bit-and, has_bit-without, has_bit-low, has_bit-right, bit_at-there, bit_at-gone, column_below, has_bit-zero, le_from_part}
 use Rattle.board_points.proofs.ColumnLemmas.{lowest_left}
 

@@ -1,12 +1,10 @@
 -- Words as sets of columns: the columns of a row, those between two of them, and a word with a column added or taken.
-use Rattle.board_points.proofs.Common.{◌≡◌, ◌≢◌, inl, inr, ℕ, ◌+◌, ◌-◌, ◌*◌, ◌^◌, ◌%◌, ◌<◌, ◌==◌, ◌||◌, ◌&&◌, Bool, true, false, not, bit_and, bit_or, w64, refl, sym, ap, ◌∙◌, arith, ◌≤◌, mod-eq_of_lt, pow_pos, bit_at, bit_not, trailing_zeros, leading_zeros, or-true, and-true, and-false, or_right, and_parts, and_from, false≢true, cases_eq, cases_lt, common_steps, pow_below, mod_below, leading_top, bit_at_set_same, bit_at_set_other, bit_at_mask_inside, bit_at_mask_above, bit_at_mask_below, bit_at-trailing_zeros, bit_at_cat_high, has_bit, AreAllColumns, IsPart, two-pow-succ}
-use Rattle.std.proofs.Common.{nat_le, leb-true, le-leb}
+use Rattle.board_points.proofs.Common.{◌≡◌, ◌≢◌, inl, inr, ℕ, ◌+◌, ◌-◌, ◌*◌, ◌^◌, ◌%◌, ◌<◌, ◌==◌, ◌||◌, ◌&&◌, Bool, true, false, not, bit_and, bit_or, w64, refl, sym, ap, ◌∙◌, arith, ◌≤◌, mod-eq_of_lt, pow_pos, bit_at, bit_not, trailing_zeros, leading_zeros, or-true, and-true, and-false, or_right, and_parts, and_from, false≢true, cases_eq, cases_lt, common_steps, pow_below, mod_below, leading_top, bit_at_set_same, bit_at_set_other, bit_at_mask_inside, bit_at_mask_above, bit_at_mask_below, bit_at-trailing_zeros, bit_at_cat_high, has_bit, AreAllColumns, IsPart, two-pow-succ, nat_le, leb-true, le-leb}
 use Rattle.board_points.proofs.WordLemmas.{has_bit-zero, has_bit-less, same_bools, le_from_part}
 
 -- a word with one bit set
 pub set_bit_there : (word col : ℕ) (b : Bool) → b ≡ true → col < 64 → has_bit (bit_or word (1 * 2 ^ col % 2 ^ 64)) col ≡ (has_bit word col || b)
-set_bit_there word col b is low =
-    ap (λ n. n == 1) (bit_at_set_same w64 word col low) ∙ sym (or_right (has_bit word col) b is)
+set_bit_there word col b is low = ap (λ n. n == 1) (bit_at_set_same w64 word col low) ∙ sym (or_right (has_bit word col) b is)
 
 pub set_bit_elsewhere : (word col : ℕ) → col < 64 → (k : ℕ) → k ≢ col → has_bit (bit_or word (1 * 2 ^ col % 2 ^ 64)) k ≡ has_bit word k
 set_bit_elsewhere word col low k other = ap (λ n. n == 1) (bit_at_set_other w64 word col low k other)

@@ -1,6 +1,5 @@
 -- Counting points by the bits of words.
-use Rattle.board_points.proofs.Common.{◌≡◌, inl, inr, ℕ, zero, suc, ◌+◌, ◌*◌, ◌^◌, ◌%◌, ◌<◌, ◌≤◌, ◌==◌, ◌&&◌, Bool, true, not, IsTrue, List, map, get_or, bit_and, count_ones, refl, sym, ap, ◌∙◌, arith, w64, pow_pos, bit_not, range_with_len, and_parts, cases_lt, false_from_ne_true, common_steps, length-map, sum_by-map-range_with_len_more, sum-map, and_le_l, ones-le, ones_cat, mod-pow-add, mod_below, bit_at-lt, bit_at_above, same_from_bits, Point, IsOn, point_at, points, has_bit, is_set, count_apart}
-use Rattle.std.proofs.Common.{cond, count_by, sum, sum_by, add_assoc}
+use Rattle.board_points.proofs.Common.{◌≡◌, ℕ, zero, suc, ◌+◌, ◌*◌, ◌^◌, ◌%◌, ◌<◌, ◌≤◌, ◌==◌, ◌&&◌, Bool, true, not, IsTrue, List, map, get_or, bit_and, count_ones, refl, sym, ap, ◌∙◌, arith, w64, pow_pos, bit_not, range_with_len, and_parts, cases_lt, false_from_ne_true, common_steps, length-map, sum_by-map-range_with_len_more, sum-map, and_le_l, ones-le, ones_cat, mod-pow-add, mod_below, bit_at-lt, bit_at_above, same_from_bits, Point, IsOn, point_at, points, has_bit, is_set, count_apart, cond, count_by, sum, sum_by, add_assoc}
 use lib.Count.{ones}
 use Rattle.board_points.proofs.PointLemmas.{point_at-index_of, is_map-points, length-points, IsOn-point_at, index_of-point_at, get_or-map-points}
 use Rattle.board_points.proofs.WordLemmas.{has_bit-and, has_bit-without, bit_at-gone, bit_at-mod}
@@ -42,8 +41,7 @@ module _ (side : ℕ) (test : Point → Bool) where
 
 -- how many of the points of the first rows are set in the one and not in the other
 abbrev pub apart_before : ℕ → List ℕ → List ℕ → ℕ → ℕ
-apart_before side rows others n =
-    count_by (λ p. is_set rows p && not (is_set others p)) (map (point_at side) (range_with_len 0 (n * side)))
+apart_before side rows others n = count_by (λ p. is_set rows p && not (is_set others p)) (map (point_at side) (range_with_len 0 (n * side)))
 
 apart_more : (side : ℕ) (rows others : List ℕ) (row : ℕ) → side ≤ 52 → row < side → get_or others row 0 < 2 ^ 64 → ((p : Point) → IsTrue (is_set rows p) → IsOn side p) → apart_before side rows others (row + 1) ≡ apart_before side rows others row + count_ones (bit_and (get_or rows row 0) (bit_not w64 (get_or others row 0)))
 unfolding counted

@@ -1,6 +1,5 @@
 -- The definitions, computed on worked examples: texts that name points, and vertices.
-use Rattle.board_points.proofs.Common.{◌≡◌, [], ◌∷◌, refl, Some, point_value, rect_value, vertex_of}
-use Rattle.std.proofs.Common.{None}
+use Rattle.board_points.proofs.Common.{◌≡◌, [], ◌∷◌, refl, Some, point_value, rect_value, vertex_of, None}
 
 -- `ZZ`, `Aa`, `aA`
 ZZ_on_52 : point_value (90 ∷ 90 ∷ []) 52 ≡ Some (record { col = 51; row = 51 })

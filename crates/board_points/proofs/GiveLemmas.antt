@@ -1,6 +1,5 @@
 -- Rows that give their points to the rows beside them, as a set is filled.
-use Rattle.board_points.proofs.Common.{◌≡◌, ◌≢◌, inl, inr, ℕ, ◌+◌, ◌-◌, ◌^◌, ◌<◌, ◌≤◌, ◌⊎◌, ◌&&◌, ◌||◌, Bool, true, false, not, nat_eq, List, length, set, bit_and, bit_or, refl, sym, ap, ◌∙◌, arith, slice_index, subst, w64, length-set, trailing_zeros, or_cases, or_left, or_right, and_parts, and_from, false≢true, cases_eq, cases_Bool, Up, Down, has_bit, is_set, IsAmong, IsClosed, Grows, IsPart, HasBeside, IsTaken, row_above, IsNext, opposite, AreRowsBelow, HaveGiven, HaveGivenBut, IsFilledBut, HaveMore, lacking}
-use Rattle.std.proofs.Common.{bit_xor}
+use Rattle.board_points.proofs.Common.{◌≡◌, ◌≢◌, inl, inr, ℕ, ◌+◌, ◌-◌, ◌^◌, ◌<◌, ◌≤◌, ◌⊎◌, ◌&&◌, ◌||◌, Bool, true, false, not, nat_eq, List, length, set, bit_and, bit_or, refl, sym, ap, ◌∙◌, arith, slice_index, subst, w64, length-set, trailing_zeros, or_cases, or_left, or_right, and_parts, and_from, false≢true, cases_eq, cases_Bool, Up, Down, has_bit, is_set, IsAmong, IsClosed, Grows, IsPart, HasBeside, IsTaken, row_above, IsNext, opposite, AreRowsBelow, HaveGiven, HaveGivenBut, IsFilledBut, HaveMore, lacking, bit_xor}
 use Rattle.board_points.specs.declared.fill.Direction.{Direction}
 use Rattle.board_points.proofs.WordLemmas.{has_bit_apart, has_bit-or, has_bit-and, has_bit-zero, not_in_part, le_from_part}
 use Rattle.board_points.proofs.ColumnLemmas.{lowest_left}
@@ -41,24 +40,7 @@ has_bit_lacked region rows row within col = has_bit_apart _ _ col (λ k is. with
 
 -- once a direction has no flagged rows left, the other one's turn comes
 pub turned : (d : Direction) (region first rows : List ℕ) (back : ℕ) → IsFilledBut region first rows d 0 back 0 0 → IsFilledBut region first rows (opposite d) back 0 0 0
-turned Up region first rows back was = record {
-  all = was.all;
-  grows = was.grows;
-  wide = was.wide;
-  flags_in = was.back_in;
-  back_in = was.flags_in;
-  ahead = given_but Down region rows back was.behind;
-  behind = given_all Up region rows 0 was.ahead;
-}
-turned Down region first rows back was = record {
-  all = was.all;
-  grows = was.grows;
-  wide = was.wide;
-  flags_in = was.back_in;
-  back_in = was.flags_in;
-  ahead = given_but Up region rows back was.behind;
-  behind = given_all Down region rows 0 was.ahead;
-}
+turned d region first rows back was = grind (arith, given_but, given_all)
 
 -- with no row flagged, all is filled
 pub IsClosed-all : (region first rows : List ℕ) → IsFilledBut region first rows Up 0 0 0 0 → IsClosed (is_set region) (is_set rows)
@@ -71,39 +53,11 @@ IsClosed-all region first rows done p q (inr (in_row, differ)) there is =
 
 -- a flagged row, before it gives all that it has
 pub IsFilledBut-first : (d : Direction) (region first rows : List ℕ) (flags left back row : ℕ) → IsFilledBut region first rows d flags back 0 0 → has_bit left row ≡ false → ((k : ℕ) → k ≢ row → has_bit left k ≡ has_bit flags k) → IsFilledBut region first rows d left back row (slice_index rows row)
-IsFilledBut-first d region first rows flags left back row was gone elsewhere = record {
-  all = was.all;
-  grows = was.grows;
-  wide = was.wide;
-  flags_in = λ r is.
-      elim (cases_eq r row) [
-        | inl same ↦ absurd (false≢true (sym gone ∙ ap (has_bit left) (sym same) ∙ is))
-        | inr other ↦ was.flags_in r (sym (elsewhere r other) ∙ is)
-      ];
-  back_in = was.back_in;
-  ahead = λ r n next free col there has.
-      elim (cases_eq r row) [
-        | inl same ↦ inr (same, ap (λ k. has_bit (slice_index rows k) col) (sym same) ∙ has)
-        | inr other ↦ inl (given_all d region rows flags was.ahead r n next (sym (elsewhere r other) ∙ free) col there has)
-      ];
-  behind = was.behind;
-}
+IsFilledBut-first d region first rows flags left back row was gone elsewhere = grind (arith, given_all, cases_eq, false≢true)
 
 -- a row that has given all that it had to give
 pub IsFilledBut-last : (d : Direction) (region first rows : List ℕ) (flags back row given : ℕ) → IsFilledBut region first rows d flags back row given → ((next : ℕ) → IsNext d row next → (col : ℕ) → has_bit (slice_index region next) col ≡ true → has_bit given col ≡ true → has_bit (slice_index rows next) col ≡ true) → IsFilledBut region first rows d flags back 0 0
-IsFilledBut-last d region first rows flags back row given was taken = record {
-  all = was.all;
-  grows = was.grows;
-  wide = was.wide;
-  flags_in = was.flags_in;
-  back_in = was.back_in;
-  ahead = λ r n next free col there has.
-      elim (was.ahead r n next free col there has) [
-        | inl done ↦ inl done
-        | inr (same, left) ↦ inl (taken n (subst (λ k. IsNext d k n) same next) col there left)
-      ];
-  behind = was.behind;
-}
+IsFilledBut-last d region first rows flags back row given was taken = grind arith
 
 -- the columns of a row are beside the rows next to it
 given_beside : (rows : List ℕ) (row next given : ℕ) → IsPart (has_bit given) (has_bit (slice_index rows row)) → (d : Direction) → IsNext d row next → IsPart (has_bit given) (has_bit (bit_or (row_above rows next) (slice_index rows (next + 1))))
@@ -147,15 +101,7 @@ module _ (d : Direction) (region first rows : List ℕ) (flags back row next giv
   from_seed col is = grind (arith, and_parts, gave, had, has_bit-and, has_bit-or, or_cases)
 
   shut : HasBeside (has_bit (slice_index region next)) (has_bit word)
-  shut col beside differ there is =
-      elim (had_or_took beside is) [
-        | inl own ↦ had col (was.wide next col beside differ there own)
-        | inr new ↦
-            elim (cases_Bool (has_bit (slice_index rows next) col)) [
-              | inl own ↦ had col own
-              | inr gone ↦ took col (closed col beside differ (lacked col there gone) new)
-            ]
-      ]
+  shut col beside differ there is = grind (arith, cases_Bool, had, took, lacked, had_or_took)
 
   of_seed : (col : ℕ) → has_bit (slice_index region next) col ≡ true → (has_bit (bit_or (slice_index rows next) given) col ≡ true) → has_bit (seed_of rows region next given) col ≡ true
   of_seed col there is = has_bit-and (bit_or (slice_index rows next) given) (slice_index region next) col ∙ and_from _ _ is there
@@ -302,17 +248,7 @@ pub row_there : (rows : List ℕ) (row col : ℕ) → has_bit (slice_index rows 
 row_there rows row col is = row_below rows (record { col = col; row = row }) is
 
 pub IsFilledBut-swept : (region first rows : List ℕ) (ups count : ℕ) → IsSwept region first rows ups count → length rows ≤ count → count ≤ length rows → IsFilledBut region first rows Up ups 0 0 0
-IsFilledBut-swept region first rows ups count was all_rows only_rows = record {
-  all = was.all;
-  grows = was.grows;
-  wide = λ r col beside differ room is. let low = row_there rows r beside is in was.wide r (omega (arith, low, all_rows)) col beside differ room is;
-  flags_in = λ r is. let low = was.ups_in r is in omega (arith, low, only_rows, was.all);
-  back_in = λ r is. absurd (false≢true (sym (has_bit-zero r) ∙ is));
-  ahead = λ r n step free col room has.
-      (let low = row_there rows r col has in inl (was.up r n step (omega (arith, low, all_rows)) free col room has));
-  behind = λ r n step free col room has.
-      (let low = row_there region n col room in was.down r n step (omega (arith, low, all_rows, was.all)) col room has);
-}
+IsFilledBut-swept region first rows ups count was all_rows only_rows = grind (arith, row_there, has_bit-zero, false≢true)
 
 -- more points twice
 pub HaveMore-twice : (a b c : List ℕ) (first second third : ℕ) → HaveMore a b first second → HaveMore b c second third → HaveMore a c first third

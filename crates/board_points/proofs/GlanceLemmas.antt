@@ -29,7 +29,7 @@ pub row_free : (own others : List ℕ) (middle i r off : ℕ) → r + 2 ≡ midd
 row_free own others middle i r off at is_off p there on not_own not_other = grind (arith, common_steps, has_bit-or, or_from)
 
 -- a row of the board next to a row
-pub next_row : (own others : List ℕ) (middle i r : ℕ) → r + 2 ≡ middle + i → r < length own → IsNextRow own others middle i (record { own = get_or own r 0; others = get_or others r 0 })
+pub next_row : (own others : List ℕ) (middle i r : ℕ) → r + 2 ≡ middle + i → r < length own → IsNextRow own others middle i (get_or own r 0) (get_or others r 0)
 next_row own others middle i r at below = record {
   has_others = λ p there is. ap (λ n. has_bit (get_or others n 0) p.col) (omega (arith, there, at)) ∙ is;
   is_free = λ col low not_own not_other. (record { col = col; row = r }, (refl, at), ((low, below), not_own, not_other));
@@ -37,7 +37,7 @@ next_row own others middle i r at below = record {
 
 -- a row next to a row, where the board ends
 pub no_next_row : (own others : List ℕ) (middle i : ℕ) → length own < 64 → ((p : Point) → p.row + 2 ≡ middle + i → is_set others p ≡ true → ⊥)
-    → IsNextRow own others middle i (record { own = 2 ^ 64 - 1; others = 0 })
+    → IsNextRow own others middle i (2 ^ 64 - 1) 0
 no_next_row own others middle i few none = grind (arith, common_steps, false≢true, has_bit-full)
 
 -- no point is free if all columns are taken
@@ -111,10 +111,7 @@ open_beside above here below off col last low gone =
     let right = bit_or (here / 2 ^ 1) off in
     elim (and_cases _ _ (sym (has_bit-and (bit_and (bit_and above below) left) right col) ∙ gone)) [
       | inl first ↦ elim (and_cases _ _ (sym (has_bit-and (bit_and above below) left col) ∙ first)) [
-        | inl both ↦ elim (and_cases _ _ (sym (has_bit-and above below col) ∙ both)) [
-          | inl up ↦ inl up
-          | inr down ↦ inr (inl down)
-        ]
+        | inl both ↦ elim (and_cases _ _ (sym (has_bit-and above below col) ∙ both)) [ inl up ↦ inl up | inr down ↦ inr (inl down) ]
         | inr next ↦ inr (inr (open_left here col low next))
       ]
       | inr next ↦ inr (inr (open_right here off col last low next))

@@ -1,6 +1,5 @@
 -- Filling a set of points, as rows of words: one row grown; the rows that wait, and those that don't.
-use Rattle.board_points.proofs.Common.{◌≡◌, ◌≢◌, inl, inr, ℕ, zero, suc, ◌+◌, ◌^◌, ◌<◌, ◌≤◌, ◌||◌, Bool, true, List, length, get_or, set, bit_and, bit_or, refl, sym, ap, ◌∙◌, arith, slice_index, ◌⊎◌, false, not, nat_eq, subst, get_or-set_same, get_or-set_other, or_cases, or_left, or_right, and_parts, and_from, false≢true, cases_eq, cases_Bool, Decides-eqb, common_steps, sum_by-set, Point, has_bit, is_set, IsAmong, IsClosed, Grows, IsPart, HasBeside, row_above, lacking}
-use Rattle.std.proofs.Math.ListN.{get_or-eq_default}
+use Rattle.board_points.proofs.Common.{◌≡◌, ◌≢◌, inl, inr, ℕ, zero, suc, ◌+◌, ◌^◌, ◌<◌, ◌≤◌, ◌||◌, Bool, true, List, length, get_or, set, bit_and, bit_or, refl, sym, ap, ◌∙◌, arith, slice_index, ◌⊎◌, false, not, nat_eq, subst, get_or-set_same, get_or-set_other, or_cases, or_left, or_right, and_parts, and_from, false≢true, cases_eq, cases_Bool, Decides-eqb, common_steps, sum_by-set, Point, has_bit, is_set, IsAmong, IsClosed, Grows, IsPart, HasBeside, row_above, lacking, get_or-eq_default}
 use Rattle.board_points.proofs.WordLemmas.{has_bit-or, has_bit-and, has_bit-zero}
 
 -- a point that is set has a row

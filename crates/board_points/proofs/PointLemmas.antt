@@ -1,6 +1,5 @@
 -- Points, their indices in a list that goes row by row, and tests on the points of a grid.
-use Rattle.board_points.proofs.Common.{◌≡◌, ◌≢◌, Some, subst, ℕ, ◌+◌, ◌*◌, ◌<◌, ◌⊎◌, Bool, true, List, [], ◌∷◌, map, take, length, get_or, refl, sym, ap, ◌∙◌, arith, inl, inr, Contains, list_any, Decides-eqb, Decides-and, Decides-or, Decides-by_or, common_steps, length-map, take_more, Contains-append_left, Contains-push, Contains-push_cases, length-map-range_with_len, get_or-map-range_with_len, mul-add-lt, mod-mul-add, div-mul-add, rows, Point, IsOn, AreAdjacent, are_adjacent, index_of, point_at, points, DifferByOne}
-use Rattle.std.proofs.Common.{◌↔◌, slice_get, Decides, ext_get_or}
+use Rattle.board_points.proofs.Common.{◌≡◌, ◌≢◌, Some, subst, ℕ, ◌+◌, ◌*◌, ◌<◌, ◌⊎◌, Bool, true, List, map, take, length, get_or, refl, sym, ap, ◌∙◌, arith, inl, inr, Contains, list_any, Decides-eqb, Decides-and, Decides-or, Decides-by_or, common_steps, length-map, take_more, Contains-append_left, Contains-push, Contains-push_cases, length-map-range_with_len, get_or-map-range_with_len, mul-add-lt, mod-mul-add, div-mul-add, rows, Point, IsOn, AreAdjacent, are_adjacent, index_of, point_at, points, DifferByOne, ◌↔◌, slice_get, Decides, ext_get_or}
 use Rattle.std.proofs.lemmas.List.{get_or-map}
 use Rattle.std.proofs.lemmas.Option.{slice_get-get_or, get_or_from_slice_get, slice_get_within}
 use Rattle.std.proofs.lemmas.List.Folds.{list_any_at}
@@ -22,8 +21,7 @@ point_at-index_of side p h = grind (arith, common_steps, div-mul-add, mod-mul-ad
 
 -- two points of the grid with one index are one
 pub index_of-injective : (side : ℕ) (p q : Point) → IsOn side p → IsOn side q → index_of side p ≡ index_of side q → p ≡ q
-index_of-injective side p q hp hq e =
-    sym (point_at-index_of side p hp) ∙ ap (point_at side) e ∙ point_at-index_of side q hq
+index_of-injective side p q hp hq e = sym (point_at-index_of side p hp) ∙ ap (point_at side) e ∙ point_at-index_of side q hq
 
 pub above_zero : (side i : ℕ) → i < side * side → 0 < side
 above_zero n i h = grind (arith, common_steps)

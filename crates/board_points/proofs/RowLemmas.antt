@@ -1,6 +1,5 @@
 -- Sets of points as rows of words that are written one by one.
-use Rattle.board_points.proofs.Common.{◌≡◌, ℕ, ◌+◌, ◌^◌, ◌<◌, ◌||◌, Bool, false, not, List, length, get_or, set, slice_index, bit_and, bit_or, w64, sym, ap, ◌∙◌, arith, ◌≤◌, get_or-set_same, get_or-set_other, bit_not, or-false, and_parts, common_steps, get_or_past, bit_at-zero, same_from_bits, Point, IsOn, is_set, AreRowsOf, IsDifference}
-use Rattle.std.proofs.Common.{slice_set}
+use Rattle.board_points.proofs.Common.{◌≡◌, ℕ, ◌+◌, ◌^◌, ◌<◌, ◌||◌, Bool, false, not, List, length, get_or, set, slice_index, bit_and, bit_or, w64, sym, ◌∙◌, arith, ◌≤◌, get_or-set_same, get_or-set_other, bit_not, or-false, and_parts, common_steps, get_or_past, bit_at-zero, same_from_bits, Point, IsOn, is_set, AreRowsOf, IsDifference, slice_set}
 use Rattle.board_points.proofs.GrowLemmas.{row_below}
 use Rattle.board_points.proofs.WordLemmas.{has_bit-and, has_bit-without, bit_at-gone, has_bit-or, has_bit-zero}
 use Rattle.board_points.proofs.ColumnLemmas.{AreOthers}

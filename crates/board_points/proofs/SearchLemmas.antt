@@ -1,6 +1,5 @@
 -- What a search keeps as points are found.
-use Rattle.board_points.proofs.Common.{◌≡◌, ◌⊎◌, inl, inr, ℕ, zero, suc, ◌+◌, ◌*◌, ◌<◌, ◌≤◌, Bool, true, false, List, [], ◌∷◌, length, get_or, take, set, refl, sym, ap, ◌∙◌, subst, arith, IsTrue, get_or-set_same, length-set, common_steps, length_push, take_more_set, Contains-append_left, Contains-push, sum_by-set, count_by-le-length, Point, Marking, is_marked, marked_count, with_mark, IsOn, index_of, Searched, IsSound, Finds}
-use Rattle.std.proofs.Common.{◌++◌, length-take-le}
+use Rattle.board_points.proofs.Common.{◌≡◌, ◌⊎◌, inl, inr, ℕ, zero, suc, ◌+◌, ◌*◌, ◌<◌, ◌≤◌, Bool, true, false, List, [], ◌∷◌, length, get_or, take, set, refl, sym, ap, ◌∙◌, subst, arith, IsTrue, get_or-set_same, length-set, common_steps, length_push, take_more_set, Contains-append_left, Contains-push, sum_by-set, count_by-le-length, Point, Marking, is_marked, marked_count, with_mark, IsOn, index_of, Searched, IsSound, Finds, ◌++◌, length-take-le}
 use Rattle.board_points.proofs.PointLemmas.{index_below, index_of-injective}
 
 -- points found after others

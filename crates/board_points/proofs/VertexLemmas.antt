@@ -1,6 +1,5 @@
 -- Different points have different vertices.
-use Rattle.board_points.proofs.Common.{◌≡◌, ℕ, ◌-◌, ◌<◌, ◌≤◌, map, refl, sym, ap, ◌∙◌, arith, nat_lt, slice_index, range_with_len, common_steps, get_or-range_with_len, Point, Vertex, IsOn, column_letters, vertex_of}
-use Rattle.std.proofs.Common.{if◌then◌else◌}
+use Rattle.board_points.proofs.Common.{◌≡◌, ℕ, ◌-◌, ◌<◌, ◌≤◌, map, refl, sym, ap, ◌∙◌, arith, nat_lt, slice_index, range_with_len, common_steps, get_or-range_with_len, Point, Vertex, IsOn, column_letters, vertex_of, if◌then◌else◌}
 use Rattle.std.proofs.lemmas.List.{get_or-map}
 
 -- the column of a letter

@@ -1,6 +1,5 @@
 -- Words as sets of columns: what the operations on words make of their bits.
-use Rattle.board_points.proofs.Common.{◌≡◌, inl, inr, ℕ, zero, suc, ◌+◌, ◌-◌, ◌*◌, ◌/◌, ◌%◌, ◌^◌, ◌<◌, ◌≤◌, ◌==◌, ◌||◌, ◌&&◌, max, Bool, true, false, not, bit_and, bit_or, w64, refl, sym, ap, ◌∙◌, arith, subst, rules, eqb-true, pow_pos, bit_at, bit_not, not-true, false_from_ne_true, false≢true, cases_lt, eqb-false, common_steps, le_or_l, and_mask, mod_below, bit_at_and, bit_at_or, bit_at_not, bit_at_xor, bit_at-lt, bit_at-suc, bit_at-zero, bit_at_above, bit_at_ones, bit_at_cat_high, bit_at_cat_low, same_from_bits, has_bit, IsPart, AreAllColumns, AreColumnsOff}
-use Rattle.std.proofs.Common.{min, bit_xor}
+use Rattle.board_points.proofs.Common.{◌≡◌, inl, inr, ℕ, zero, suc, ◌+◌, ◌-◌, ◌*◌, ◌/◌, ◌%◌, ◌^◌, ◌<◌, ◌≤◌, ◌==◌, ◌||◌, ◌&&◌, max, Bool, true, false, not, bit_and, bit_or, w64, refl, sym, ap, ◌∙◌, arith, subst, rules, eqb-true, pow_pos, bit_at, bit_not, not-true, false_from_ne_true, false≢true, cases_lt, eqb-false, common_steps, le_or_l, and_mask, mod_below, bit_at_and, bit_at_or, bit_at_not, bit_at_xor, bit_at-lt, bit_at-suc, bit_at-zero, bit_at_above, bit_at_ones, bit_at_cat_high, bit_at_cat_low, same_from_bits, has_bit, IsPart, AreAllColumns, AreColumnsOff, min, bit_xor}
 
 -- what holds of each two bits
 by_bits : (P : ℕ → ℕ → Type 0) → P zero zero → P zero (suc zero) → P (suc zero) zero → P (suc zero) (suc zero) → (x y : ℕ) → x < 2 → y < 2 → P x y

@@ -1,8 +1,7 @@
 -- What holds of a player's stone that is put on a point, and of the stones beside it. The player's stones are in the one set of points, and the
 -- opponent's in the other.
 use Rattle.std.specs.Prelude.{◌≡◌, ◌≢◌, ◌⊎◌, ℕ, IsTrue, List}
-use Rattle.board_points.specs.declared.points.Point.{Point}
-use Rattle.board_points.specs.Point.{AreAdjacent, DifferByOne}
+use Rattle.board_points.specs.Point.{Point, AreAdjacent, DifferByOne}
 use Rattle.board_points.specs.Linked.{IsFree}
 use Rattle.board_points.specs.Rows.{is_set}
 

@@ -1,7 +1,6 @@
 -- Two sets of points in one list of words: each word has a row of the one in its low half, and a row of the other in its high half.
 use Rattle.std.specs.Prelude.{◌≡◌, ℕ, ◌/◌, ◌%◌, ◌^◌, ◌<◌, IsTrue, not, List, length, map}
-use Rattle.board_points.specs.declared.points.Point.{Point}
-use Rattle.board_points.specs.Point.{IsOn}
+use Rattle.board_points.specs.Point.{Point, IsOn}
 use Rattle.board_points.specs.Rows.{is_set, AreRowsOf}
 
 -- the rows in the low halves

@@ -1,7 +1,6 @@
 -- The group of a stone, as sets of points: the stones of its colour that are linked to it, and their liberties.
 use Rattle.std.specs.Prelude.{◌≡◌, ◌⊎◌, ◌||◌, ℕ, Bool, false, IsTrue, IsFalse, List, length, ◌<◌}
-use Rattle.board_points.specs.declared.points.Point.{Point}
-use Rattle.board_points.specs.Point.{IsOn, AreAdjacent}
+use Rattle.board_points.specs.Point.{Point, IsOn, AreAdjacent}
 use Rattle.board_points.specs.Rows.{is_set, AreOfOneBoard, IsAmong, IsClosed}
 
 -- Every set that has the point `from` and is closed within the region also has the other point.

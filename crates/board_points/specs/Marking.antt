@@ -1,7 +1,6 @@
 -- A set of points of a square grid.
 use Rattle.std.specs.Prelude.{ℕ, Bool, false, List, map, count_by, slice_index_or, ◌*◌, true, replicate, slice_set}
-use Rattle.board_points.specs.declared.points.Point.{Point}
-use Rattle.board_points.specs.Point.{index_of, points}
+use Rattle.board_points.specs.Point.{Point, index_of, points}
 
 -- the side, and for each point whether it is marked: row by row from the top, from left to right
 pub record Marking : Type 0 where

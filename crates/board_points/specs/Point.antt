@@ -1,8 +1,8 @@
 -- Points and rectangles of a square grid. Columns are counted from 0 at the left, rows from 0 at the top.
 use Rattle.std.specs.Prelude.{◌≡◌, ℕ, ◌+◌, ◌*◌, ◌/◌, ◌%◌, ◌<◌, ◌≤◌, ◌⊎◌, Bool, ◌&&◌, ◌||◌, ◌==◌, List, map}
 use Rattle.std.specs.List.{range_with_len}
-use Rattle.board_points.specs.declared.points.Point.{Point}
-use Rattle.board_points.specs.declared.points.Rect.{Rect}
+pub use Rattle.board_points.specs.declared.points.Point.{Point}
+pub use Rattle.board_points.specs.declared.points.Rect.{Rect}
 
 -- the point is on the grid of that side
 abbrev pub IsOn : ℕ → Point → Type 0

@@ -1,8 +1,7 @@
 -- A set of points as a number for each row, with a bit for each column. This form is this project's choice.
 use Rattle.std.specs.Prelude.{◌≡◌, ℕ, ◌<◌, Bool, false, ◌==◌, IsTrue, List, length, slice_index, not, ◌&&◌, count_by}
 use Rattle.std.specs.Int.{bit_at}
-use Rattle.board_points.specs.declared.points.Point.{Point}
-use Rattle.board_points.specs.Point.{AreAdjacent, IsOn, points}
+use Rattle.board_points.specs.Point.{Point, AreAdjacent, IsOn, points}
 
 -- the bit of a column is set
 abbrev pub has_bit : ℕ → ℕ → Bool

@@ -1,7 +1,6 @@
 -- A search over the points of a grid.
 use Rattle.std.specs.Prelude.{◌≡◌, ℕ, ◌+◌, ◌*◌, ◌≤◌, ◌⊎◌, List, [], All, Contains, IsTrue, length}
-use Rattle.board_points.specs.declared.points.Point.{Point}
-use Rattle.board_points.specs.Point.{IsOn}
+use Rattle.board_points.specs.Point.{Point, IsOn}
 use Rattle.board_points.specs.Marking.{Marking, is_marked, marked_count, no_marks}
 
 -- the points found, each marked, and those of them that wait for a closer look

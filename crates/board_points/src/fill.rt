@@ -1,41 +1,23 @@
 //! Filling sets of points: a word for each row, with a bit for each column.
 
 ghost use Rattle.std.specs.Prelude.{◌≡◌, ◌≢◌, ℕ, ◌+◌, ◌<◌, Bool, not, ◌&&◌, ◌||◌, IsTrue, List, length, slice_index};
-ghost use Rattle.board_points.specs.declared.fill.Direction.TheVariants.{Up};
 ghost use Rattle.board_points.specs.inner.Fill.{IsFilledBut, IsNext, AreRowsBelow, HaveMore};
 ghost use Rattle.board_points.specs.Rows.{IsWithin, has_bit, is_set, IsClosed, Grows};
 ghost use Rattle.board_points.specs.inner.Columns.{IsPart, HasBeside};
 
 use crate::columns::{with_column, without_column};
 
-/// Adds to a set all points that a path within `region` connects to it. This is the plain way to find whole groups or areas.
-///
-/// First each row gives its points to the row below it, from the top. Then rows that can give a point to the row above them do so, from the
-/// bottom, and rows that can give one downwards do so, from the top, until none can. A row that takes points gives them on at once: so a
-/// corridor is followed as far as it goes up or down. All points of the set must be in the region, and both must have as many words as the
-/// board has rows, fewer than 64.
+/// Adds to a set all points that a path within `region` connects to it. This is the plain way to find whole groups or areas. First each row
+/// gives its points to the row below it, from the top. Then rows that can give a point to the row above them do so, from the bottom, and
+/// rows that can give one downwards do so, from the top, until none can. A row that takes points gives them on at once: so a corridor is
+/// followed as far as it goes up or down. All points of the set must be in the region, and both must have as many words as the board has
+/// rows, fewer than 64.
 pub fn fill(rows: &mut [u64], region: &[u64])
     requires { IsWithin rows.old region.now }
     ensures grows { Grows (is_set region.now) (is_set rows.old) (is_set rows.new) }
     ensures closed { IsClosed (is_set region.now) (is_set rows.new) }
 {
-    let mut ups = give_down_once(rows, region);
-    'passes: while ups != 0 {
-        let downs = give_all(rows, region, ups, Direction::Up);
-        ups = give_all(rows, region, downs, Direction::Down);
-    }
-}
-
-/// From the first row to the last, each row is widened, and takes what the row above it gives. Returns the rows that can give to the row
-/// above them.
-#[inline(always)]
-fn give_down_once(rows: &mut [u64], region: &[u64]) -> u64
-    requires { IsWithin rows.old region.now }
-    ensures { IsFilledBut region.now rows.old rows.new Up result 0 0 0 }
-{
-    let mut above = 0;
-    let mut above_lacks = 0;
-    let mut ups = 0;
+    let (mut above, mut above_lacks, mut ups) = (0, 0, 0);
     'rows: for row in 0..rows.len() {
         let (word, lacks) = widened((rows[row] | above) & region[row], region[row]);
         rows[row] = word;
@@ -43,7 +25,10 @@ fn give_down_once(rows: &mut [u64], region: &[u64]) -> u64
         above = word;
         above_lacks = lacks;
     }
-    ups
+    'passes: while ups != 0 {
+        let downs = give_all(rows, region, ups, Direction::Up);
+        ups = give_all(rows, region, downs, Direction::Down);
+    }
 }
 
 /// The ways from row to row.
@@ -66,22 +51,9 @@ impl Direction {
             Direction::Down => row + 1,
         }
     }
-
-    /// The flagged row that is farthest back.
-    #[inline(always)]
-    fn first(self, flags: u64) -> usize
-        requires { flags ≢ 0 }
-        ensures there { IsTrue (has_bit flags result) }
-        ensures below { result < 64 }
-    {
-        match self {
-            Direction::Up => 63 - flags.leading_zeros() as usize,
-            Direction::Down => flags.trailing_zeros() as usize,
-        }
-    }
 }
 
-/// Each flagged row gives its points in a direction (`give`). Returns the rows that can give some back.
+/// Each flagged row gives its points in a direction (`give`), the one farthest back first. Returns the rows that can give some back.
 #[inline(always)]
 fn give_all(rows: &mut [u64], region: &[u64], flags: u64, direction: Direction) -> u64
     requires within { IsWithin rows.old region.now }
@@ -93,7 +65,10 @@ fn give_all(rows: &mut [u64], region: &[u64], flags: u64, direction: Direction) 
     let mut waiting = flags;
     let mut back = 0;
     'flags: while waiting != 0 {
-        let row = direction.first(waiting);
+        let row = match direction {
+            Direction::Up => 63 - waiting.leading_zeros() as usize,
+            Direction::Down => waiting.trailing_zeros() as usize,
+        };
         waiting = without_column(waiting, row);
         back = give(rows, region, row, direction, back);
     }
@@ -157,16 +132,14 @@ fn flagged(flags: u64, row: usize) -> u64
     with_column(flags, row, true)
 }
 
-/// Widens a set of columns by the columns of the region beside it, until there are no more. Returns them, and the columns of the region that
-/// are left.
+/// Widens a set of columns by those of the region beside it, until there are no more. Returns them, and the columns of the region left out.
 #[inline(always)]
 pub(crate) fn widened(seed: u64, region: u64) -> (u64, u64)
     requires { IsPart (has_bit seed) (has_bit region) }
     ensures within { IsPart (has_bit result.0) (has_bit region) }
     ensures kept { IsPart (has_bit seed) (has_bit result.0) }
     ensures closed { HasBeside (has_bit region) (has_bit result.0) }
-    ensures least { (set : ℕ → Bool) → HasBeside (has_bit region) set → IsPart (has_bit seed) set
-        → IsPart (has_bit result.0) set }
+    ensures least { (set : ℕ → Bool) → HasBeside (has_bit region) set → IsPart (has_bit seed) set → IsPart (has_bit result.0) set }
     ensures left { (col : ℕ) → has_bit result.1 col ≡ (has_bit region col && not (has_bit result.0 col)) }
 {
     // the carry of a sum finds the columns of the region that follow one of the seed without a gap

@@ -1,8 +1,7 @@
 //! Which points of a row have a liberty: an empty point beside them.
 
 ghost use Rattle.std.specs.Prelude.{◌≡◌, ◌+◌, ◌<◌, ◌≤◌, false, ℕ, IsTrue, length};
-ghost use Rattle.board_points.specs.declared.points.Point.{Point};
-ghost use Rattle.board_points.specs.Point.{IsOn};
+ghost use Rattle.board_points.specs.Point.{Point, IsOn};
 ghost use Rattle.board_points.specs.Linked.{HasLiberty, HaveLiberty};
 ghost use Rattle.board_points.specs.inner.Look.{AreColumnsOff, IsRowAt};
 ghost use Rattle.board_points.specs.Rows.{has_bit, is_set, AreOfOneBoard};
@@ -44,8 +43,7 @@ pub(crate) fn columns_beside(above: u64, here: u64, below: u64) -> u64
     above | below | here << 1 | here >> 1
 }
 
-/// What stands on a row near the row `middle`. `i` is 0 for the second row above it, and 2 for `middle` itself.
-/// `off` has the columns that the board doesn't have.
+/// What stands on a row near the row `middle`: `i` is 0 for the second row above it, 2 for `middle`. `off` has the columns off the board.
 #[tactic(auto, using(crate::proofs::GrowLemmas::row_below))]
 pub(crate) fn row_at(own: &[u64], others: &[u64], off: u64, middle: usize, i: usize) -> RowStones
     requires rows { AreOfOneBoard own.now others.now }
@@ -77,11 +75,9 @@ pub(crate) fn row_inside(own: &[u64], others: &[u64], off: u64, row: usize) -> R
     ensures free { (point : Point) → point.row ≡ row → IsOn (length own.now) point → is_set own.now point ≡ false
         → is_set others.now point ≡ false → has_bit result.taken point.col ≡ false }
 {
-    RowStones {
-        own: own[row],
-        others: others[row],
-        taken: own[row] | others[row] | off,
-    }
+    let (own, others) = (own[row], others[row]);
+    let taken = own | others | off;
+    RowStones { own, others, taken }
 }
 
 /// Writes to `found` the stones of `own` that have an empty point beside them. This is the plain way; `quick` asks about one stone.

@@ -32,10 +32,8 @@ impl Marks {
         ensures { result ≡ no_marks size }
     {
         prove!(usize::from(size.side()) <= MAX_ROWS);
-        Marks {
-            size,
-            rows: no_rows(),
-        }
+        let rows = no_rows();
+        Marks { size, rows }
     }
 
     /// Marks a point, which must be on the board.

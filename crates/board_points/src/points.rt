@@ -5,8 +5,7 @@ ghost use Rattle.board_points.specs.Point.{IsOn, AreAdjacent, index_of};
 
 use crate::size::{MAX_SIDE, Size};
 
-/// A point, by its column from the left and its row from the top, both
-/// from 0. It is on a board of side n if both are less than n.
+/// A point, by its column from the left and its row from the top, both from 0. It is on a board of side n if both are less than n.
 #[derive(Clone, Copy, Debug, PartialEq, Eq)]
 pub struct Point {
     /// The column, counted from 0 at the left.
@@ -35,10 +34,8 @@ impl Point {
         ensures value { index_of size result ≡ index }
     {
         let side = usize::from(size.side());
-        Point {
-            col: (index % side) as u8,
-            row: (index / side) as u8,
-        }
+        let (col, row) = ((index % side) as u8, (index / side) as u8);
+        Point { col, row }
     }
 
     /// Whether the point is on a board of that size.

@@ -2,8 +2,7 @@
 //! a function says otherwise.
 
 ghost use Rattle.std.specs.Prelude.{◌≡◌, ◌≤◌, ◌<◌, ◌↔◌, ◌||◌, false, not, IsTrue, length, replicate, take};
-ghost use Rattle.board_points.specs.declared.points.Point.{Point};
-ghost use Rattle.board_points.specs.Point.{IsOn};
+ghost use Rattle.board_points.specs.Point.{Point, IsOn};
 ghost use Rattle.board_points.specs.Rows.{is_set, AreRowsOf, HasNoPoint, IsDifference, count_apart};
 
 use crate::columns::{all_columns, has_column};
@@ -87,8 +86,7 @@ pub fn add_points(rows: &[u64], all: &mut [u64])
     }
 }
 
-/// The number of points that are in `rows` and not in `others`. Both must have as many words as the board has rows, and all points of `rows` must
-/// be on the board.
+/// How many points of `rows` aren't in `others`. Both must have as many words as the board has rows, and `rows` only points on it.
 pub fn count_apart(rows: &[u64], others: &[u64]) -> u32
     requires few { length rows.now ≤ MAX_ROWS }
     requires same { length others.now ≡ length rows.now }

@@ -25,9 +25,7 @@ impl Model for Search {
 
     ghost view = { λ s. record { marking = s.marks; waiting = take s.waiting s.points } };
 
-    ghost invariant = { λ s. (length s.points ≡ MAX_POINTS)
-        × (s.waiting ≤ MAX_POINTS)
-        × (s.marks.side * s.marks.side ≤ MAX_POINTS)
+    ghost invariant = { λ s. (length s.points ≡ MAX_POINTS) × (s.waiting ≤ MAX_POINTS) × (s.marks.side * s.marks.side ≤ MAX_POINTS)
         × IsSound (record { marking = s.marks; waiting = take s.waiting s.points }) };
 }
 
@@ -75,11 +73,7 @@ impl Search {
     pub fn into_marks(self) -> Marks
         ensures { result ≡ self.marking }
     {
-        let Search {
-            marks,
-            points: _,
-            waiting: _,
-        } = self;
+        let Search { marks, .. } = self;
         marks
     }
 }

@@ -8,8 +8,7 @@ ghost use Rattle.board_points.specs.Values.{coordinate, point_of, rect_of, point
 use crate::points::{Point, Rect};
 use crate::size::Size;
 
-/// The point of the board that a raw value names (SGF FF[4]): two letters, the
-/// column's and then the row's, and nothing else. None for any other value.
+/// The point of the board that a raw value names (SGF FF[4]): two letters, the column's first, and nothing else. None for any other value.
 #[tactic(auto, unfolding(crate::specs::Values::point_value))]
 pub fn point(raw: &[u8], size: Size) -> Option<Point>
     ensures value { result ≡ point_value raw.now size }
@@ -26,14 +25,11 @@ fn point_of(col: u8, row: u8, size: Size) -> Option<Point>
     ensures value { result ≡ point_of size col row }
     ensures on_board { IfSome result (λ p. IsOn size p) }
 {
-    Some(Point {
-        col: coordinate_of(col, size)?,
-        row: coordinate_of(row, size)?,
-    })
+    let (col, row) = (coordinate_of(col, size)?, coordinate_of(row, size)?);
+    Some(Point { col, row })
 }
 
-/// The column or row, from 0, that a letter names on a board of that size; None if
-/// there is none. `a` to `z` are the first 26, `A` to `Z` the next 26.
+/// The column or row, from 0, that a letter names on a board of that size, if any. `a` to `z` are the first 26, `A` to `Z` the next 26.
 fn coordinate_of(letter: u8, size: Size) -> Option<u8>
     ensures { result ≡ coordinate size letter }
 {
@@ -42,17 +38,12 @@ fn coordinate_of(letter: u8, size: Size) -> Option<u8>
         b'A'..=b'Z' => letter - b'A' + 26,
         _ => return None,
     };
-    if index < size.side() {
-        Some(index)
-    } else {
-        None
-    }
+    (index < size.side()).then_some(index)
 }
 
-/// The rectangle of the board that a raw value names (SGF FF[4]). The value is a single point, which is both corners; or the
-/// upper left corner, a `:` and the lower right corner. None for any other value.
-///
-/// The corners may be equal, and the upper left one must come first. Both are this project's choice.
+/// The rectangle of the board that a raw value names (SGF FF[4]). The value is a single point, which is both corners; or the upper left
+/// corner, a `:` and the lower right corner. None for any other value. The corners may be equal, and the upper left one must come first.
+/// Both are this project's choice.
 #[tactic(auto, unfolding(crate::specs::Values::rect_value))]
 pub fn rect(raw: &[u8], size: Size) -> Option<Rect>
     ensures value { result ≡ rect_value raw.now size }
@@ -75,9 +66,5 @@ pub fn rect(raw: &[u8], size: Size) -> Option<Rect>
 fn ordered(first: Point, last: Point) -> Option<Rect>
     ensures { result ≡ rect_of first last }
 {
-    if first.col <= last.col && first.row <= last.row {
-        Some(Rect { first, last })
-    } else {
-        None
-    }
+    (first.col <= last.col && first.row <= last.row).then_some(Rect { first, last })
 }

@@ -22,21 +22,14 @@ pub(crate) mod naming {
     use crate::size::Size;
     use crate::vertices::{MAX_VERTEX_SIDE, Vertex};
 
-    /// The vertex of a point (GTP, version 2). It is the letter of its column, A to Z without I from the left, and the number of
-    /// its row, counted from 1 at the bottom. The point must be on the board, and the side at most `MAX_VERTEX_SIDE`.
+    /// The vertex of a point (GTP, version 2). The point must be on the board, and the side at most `MAX_VERTEX_SIDE`.
     pub fn vertex(point: Point, size: Size) -> Vertex
         requires on_board { IsOn size point }
         requires letters { size ≤ MAX_VERTEX_SIDE }
         ensures { result ≡ vertex_of point size }
     {
-        let letter = if point.col < b'I' - b'A' {
-            b'A' + point.col
-        } else {
-            b'A' + point.col + 1
-        };
-        Vertex {
-            letter,
-            row: size.side() - point.row,
-        }
+        let letter = b'A' + point.col + u8::from(point.col >= b'I' - b'A');
+        let row = size.side() - point.row;
+        Vertex { letter, row }
     }
 }

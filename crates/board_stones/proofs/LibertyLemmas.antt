@@ -41,11 +41,7 @@ module _ (g : Grid) (k : Colour) (own others : List ℕ) (from : Point) (all : l
   }
 
   pub IsStone-rows : g.side ≤ 52 → length others ≡ g.side → IsOn g.side from → cell_at g from ≡ stone_of k → IsStone own others from
-  IsStone-rows small all_others on stone = record {
-    rows = record { same = all_others ∙ sym all; few = omega arith };
-    on_board = subst (λ n. IsOn n from) (sym all) on;
-    there = own_set from on stone;
-  }
+  IsStone-rows small all_others on stone = grind (arith, common_steps, own_set)
 
   -- the own stones that don't reach empty
   shut_in : Point → Bool

@@ -112,8 +112,7 @@ module _ (g : Grid) (k : Cell) where
   Settles n = (reaching_within g k (suc n) ≡ reaching_within g k n) ⊎ (n < marks_in (marks_after (suc n)))
 
   compared : (n : ℕ) → (marks_after n ≡ marks_after (suc n)) ⊎ (marks_in (marks_after n) < marks_in (marks_after (suc n)))
-  compared n =
-      same_or_more (marks_after n) (marks_after (suc n)) (length-marks_after n ∙ sym (length-marks_after (suc n))) (round_adds n)
+  compared n = same_or_more (marks_after n) (marks_after (suc n)) (length-marks_after n ∙ sym (length-marks_after (suc n))) (round_adds n)
 
   settled_by : (n : ℕ) → marks_after n ≡ marks_after (suc n) → reaching_within g k (suc n) ≡ reaching_within g k n
   unfolding marks_after

@@ -53,8 +53,7 @@ module _ (g : Grid) (own wanted : Cell) (region seed : List ℕ) (is_room : AreR
 
     along : (p : Point) (path : List Point) → Leads g own wanted p path → is_set result p ≡ true
     along p [] way = goal_in p way.0 way.1
-    along p (q ∷ path) way =
-        closed p q way.2 (is_room.on p way.0 ∙ either_first _ own wanted way.1) (along q path way.3)
+    along p (q ∷ path) way = closed p q way.2 (is_room.on p way.0 ∙ either_first _ own wanted way.1) (along q path way.3)
 
     pub AreRowsOf-filled : AreRowsOf g.side (reaches_through_own g own wanted) result
     AreRowsOf-filled = grind (arith, common_steps, Decides-reaches, along, and_from, and_parts, either_is, goal_in, same_bools)

@@ -33,8 +33,7 @@ path_kept g k own p (q ∷ path) way = (
 
 -- what reaches empty does so after a clearing
 pub reaches_after_clear : (g : Grid) (k : Colour) (p : Point) → Reaches g Empty p → Reaches (clear g k) Empty p
-reaches_after_clear g k p way =
-    Reaches-Leads (clear g k) (cell_at g p) Empty p way.0 (path_kept g k (cell_at g p) p way.0 way.1)
+reaches_after_clear g k p way = Reaches-Leads (clear g k) (cell_at g p) Empty p way.0 (path_kept g k (cell_at g p) p way.0 way.1)
 
 -- a stone that clearing leaves was there before, and it reached empty if it has the colour
 left_stone : (g : Grid) (k d : Colour) (p : Point) → IsOn g.side p → cell_at (clear g k) p ≡ stone_of d → cell_at g p ≡ stone_of d

@@ -87,9 +87,8 @@ impl Board {
         // both words are read before either is tested, so that one test tells whether the point is empty
         let (black, white) = (self.black[row], self.white[row]);
         if has_column(black, col) {
-            return Cell::Black;
-        }
-        if has_column(white, col) {
+            Cell::Black
+        } else if has_column(white, col) {
             Cell::White
         } else {
             Cell::Empty
@@ -198,12 +197,7 @@ impl Board {
     pub fn copy(&self) -> Board
         ensures { result ≡ self.now }
     {
-        Board {
-            size: self.size,
-            black: self.black,
-            white: self.white,
-            settled: self.settled,
-        }
+        Board { ..*self }
     }
 
     /// Whether every stone is known to reach empty. If this is false, nothing is known.
@@ -240,10 +234,9 @@ impl Board {
         self.empty_set(shut);
     }
 
-    /// Makes a whole move (Tromp-Taylor). The point, which must be empty and on the board, takes the player's colour. Then the
-    /// opponent's colour is cleared, which is capture, and then the player's own, which is suicide.
-    ///
-    /// This is the plain way. `PrintPast` finds what a stone clears near the stone alone (`find_cleared`).
+    /// Makes a whole move (Tromp-Taylor). The point, which must be empty and on the board, takes the player's colour. Then the opponent's
+    /// colour is cleared, which is capture, and then the player's own, which is suicide. This is the plain way. `PrintPast` finds what a
+    /// stone clears near the stone alone (`find_cleared`).
     pub fn place(&mut self, colour: Colour, point: Point)
         requires on_board { IsOn self.old.side point }
         requires empty { cell_at self.old point ≡ Empty }
@@ -255,10 +248,9 @@ impl Board {
         self.clear(colour);
     }
 
-    /// The area scores of Black and of White, in points (Tromp-Taylor): a player's points, and the empty points that reach her
-    /// colour and not the other's. An empty point that reaches both or neither counts for nobody.
-    ///
-    /// After the first test, which is a shortcut for small boards (`count_halves` counts there), this is the plain way.
+    /// The area scores of Black and of White, in points (Tromp-Taylor): a player's points, and the empty points that reach her colour and not
+    /// the other's. An empty point that reaches both or neither counts for nobody. After the first test, which is a shortcut for small boards
+    /// (`count_halves` counts there), this is the plain way.
     pub fn score(&self) -> (u32, u32)
         ensures black { result.0 ≡ score_of self.now Black }
         ensures white { result.1 ≡ score_of self.now White }

@@ -19,12 +19,10 @@ pub use board_points::laws::{listing, naming};
 /// The cells of a grid are what stands on its points, in the order of the points.
 /// So two grids are equal if they have the same side and the same cell at each point.
 pub fn colouring()
-    ensures cells { (grid : Grid) → length grid.cells ≡ grid.side * grid.side
-        → map (cell_at grid) (points grid.side) ≡ grid.cells }
+    ensures cells { (grid : Grid) → length grid.cells ≡ grid.side * grid.side → map (cell_at grid) (points grid.side) ≡ grid.cells }
     ensures same { (grid other : Grid) → grid.side ≡ other.side
         → length grid.cells ≡ grid.side * grid.side → length other.cells ≡ other.side * other.side
-        → ((point : Point) → IsOn grid.side point → cell_at grid point ≡ cell_at other point)
-        → grid ≡ other }
+        → ((point : Point) → IsOn grid.side point → cell_at grid point ≡ cell_at other point) → grid ≡ other }
 {}
 
 /// `reaches` is true of exactly those points of the grid that reach a colour by a path.
@@ -37,11 +35,9 @@ pub fn reaching()
 /// Setting a point colours that point and no other.
 #[tactic(auto, using(crate::proofs::GridLemmas::grid_rules))]
 pub fn setting()
-    ensures there { (grid : Grid) (point : Point) (cell : Cell) → IsOn grid.side point
-        → length grid.cells ≡ grid.side * grid.side
+    ensures there { (grid : Grid) (point : Point) (cell : Cell) → IsOn grid.side point → length grid.cells ≡ grid.side * grid.side
         → cell_at (with_cell grid point cell) point ≡ cell }
-    ensures elsewhere { (grid : Grid) (point other : Point) (cell : Cell)
-        → IsOn grid.side point → IsOn grid.side other
+    ensures elsewhere { (grid : Grid) (point other : Point) (cell : Cell) → IsOn grid.side point → IsOn grid.side other
         → other ≢ point → cell_at (with_cell grid point cell) other ≡ cell_at grid other }
 {}
 
@@ -49,15 +45,12 @@ pub fn setting()
 #[tactic(auto, using(crate::proofs::RuleLemmas::play_rules))]
 pub fn clearing()
     ensures side { (grid : Grid) (colour : Colour) → (clear grid colour).side ≡ grid.side }
-    ensures all { (grid : Grid) (colour : Colour)
-        → length (clear grid colour).cells ≡ grid.side * grid.side }
+    ensures all { (grid : Grid) (colour : Colour) → length (clear grid colour).cells ≡ grid.side * grid.side }
     ensures emptied { (grid : Grid) (colour : Colour) (point : Point) → IsOn grid.side point
-        → cell_at grid point ≡ stone_of colour → (¬ (Reaches grid Empty point))
-        → cell_at (clear grid colour) point ≡ Empty }
+        → cell_at grid point ≡ stone_of colour → (¬ (Reaches grid Empty point)) → cell_at (clear grid colour) point ≡ Empty }
     ensures kept { (grid : Grid) (colour : Colour) (point : Point) → IsOn grid.side point
         → Reaches grid Empty point → cell_at (clear grid colour) point ≡ cell_at grid point }
-    ensures others { (grid : Grid) (colour : Colour) (point : Point) → IsOn grid.side point
-        → cell_at grid point ≢ stone_of colour
+    ensures others { (grid : Grid) (colour : Colour) (point : Point) → IsOn grid.side point → cell_at grid point ≢ stone_of colour
         → cell_at (clear grid colour) point ≡ cell_at grid point }
 {}
 
@@ -76,14 +69,12 @@ pub fn unreaching()
 
 /// After a move every stone is alive (reaches empty), whatever stood on the grid before.
 pub fn moving()
-    ensures { (grid : Grid) (colour : Colour) (point : Point)
-        → ¬ HasUnreaching (play grid colour point) }
+    ensures { (grid : Grid) (colour : Colour) (point : Point) → ¬ HasUnreaching (play grid colour point) }
 {}
 
 /// Colouring a rectangle colours its points and no others.
 #[tactic(auto, using(crate::proofs::GridLemmas::grid_rules), unfolding(crate::specs::Rectangle::with_rectangle))]
 pub fn areas()
-    ensures { (grid : Grid) (op : SetupOp) (point : Point) → IsOn grid.side point
-        → cell_at (with_rectangle grid op) point
+    ensures { (grid : Grid) (op : SetupOp) (point : Point) → IsOn grid.side point → cell_at (with_rectangle grid op) point
         ≡ (if is_in op.area point then op.cell else cell_at grid point) }
 {}

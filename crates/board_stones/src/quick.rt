@@ -33,12 +33,8 @@ impl Board {
         let (mut area_words, mut region_words) = ([0; FEW_ROWS], [0; FEW_ROWS]);
         let areas = &mut area_words[..side];
         let region = &mut region_words[..side];
-        pair_rows(
-            self.rows_of(Colour::Black),
-            self.rows_of(Colour::White),
-            areas,
-            region,
-        );
+        let white = self.rows_of(Colour::White);
+        pair_rows(self.rows_of(Colour::Black), white, areas, region);
         fill(areas, region);
         count_halves(areas)
     }

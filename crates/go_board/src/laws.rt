@@ -39,6 +39,5 @@ pub fn repeating()
 pub fn sides()
     ensures setup { (state : State) (ops : List SetupOp) (player : Option Colour)
         → (set_up state ops player).colouring.side ≡ state.colouring.side }
-    ensures turn { (state : State) (colour : Colour) (turn : Play)
-        → (turned state colour turn).colouring.side ≡ state.colouring.side }
+    ensures turn { (state : State) (colour : Colour) (turn : Play) → (turned state colour turn).colouring.side ≡ state.colouring.side }
 {}

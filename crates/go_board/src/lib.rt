@@ -1,9 +1,8 @@
 //! A game of Go by the Tromp-Taylor rules: a referee, who takes the turns of a game and undoes them.
 //!
-//! A `Referee` is seen as the list of the states that a game went through. An accepted setup or turn adds the state that the
-//! rules give. A refusal changes nothing, and undo takes the newest state back. A stone that would repeat a colouring made since
-//! the last setup of stones is refused (positional superko). A `Past` holds the colourings for this check; in a run it
-//! is a `PrintPast`.
+//! A `Referee` is seen as the list of the states that a game went through. An accepted setup or turn adds the state that the rules give. A
+//! refusal changes nothing, and undo takes the newest state back. A stone that would repeat a colouring made since the last setup of stones
+//! is refused (positional superko). A `Past` holds the colourings for this check; in a run it is a `PrintPast`.
 //!
 //! ```text
 //! let mut referee = Referee::<PrintPast>::new(alloc, size)?;
@@ -20,8 +19,7 @@
 //! | `board_stones` | the board: stones, captures, the area score | `Board`, `Cell`, `Colour`, `SetupOp`, `Steps`, and laws |
 //! | `board_past` | the colourings that a game has been through, and whether a stone repeats one | `Past`, `PrintPast`, `ListPast`, `MemoryFault` |
 //!
-//! A turn begins with a short way that most stones take (`Past::play_at_once`). Without it every turn would be taken by
-//! `Referee::turn_in_full`.
+//! A turn begins with a short way that most stones take (`Past::play_at_once`). Without it `Referee::turn_in_full` would take every turn.
 //!
 //! | Module | What it has |
 //! |---|---|
@@ -40,9 +38,8 @@
 //! | a node that changes nothing | `Referee::stay` (`referee`) |
 //! | undo; whether the newest call, or each call since some depth, left the board as it was | `Referee::undo`; `Referee::newest_left_board`, `Referee::left_board_since` (`referee`) |
 //!
-//! A referee takes memory in `new`, `setup`, `turn` and `stay`, and in `reset` only if its past can't begin anew in place.
-//!
-//! Worked examples are in the crate `go_board_tests`.
+//! A referee takes memory in `new`, `setup`, `turn` and `stay`, and in `reset` only if its past can't begin anew in place. Worked
+//! examples are in the crate `go_board_tests`.
 #![tactic(auto)]
 
 mod fault;

@@ -111,8 +111,7 @@ impl Mover {
     fn may_play(self, player: Colour) -> bool
         ensures { result ≡ not (passes_of self == 2) && not (must_move (player_of self) (opponent player)) }
     {
-        // Almost every turn is by the player who must move, after no pass. One comparison tells of it, since Black and White have the
-        // same numbers in both enums.
+        // Most turns are by the player who must move, after no pass. One comparison tells, since both enums number Black and White alike.
         if self as u8 == player as u8 {
             return true;
         }
@@ -132,8 +131,7 @@ impl<P: Past> Model for Referee<P> {
 }
 
 impl<P: Past> Referee<P> {
-    /// A referee at the beginning of a game: the board is empty, and Black
-    /// must move. `MemoryFault` comes only if memory was refused.
+    /// A referee at the beginning of a game: the board is empty, and Black must move. `MemoryFault` comes only if memory was refused.
     pub fn new(alloc: Global, size: Size) -> Result<Referee<P>, MemoryFault>
         ensures { IfOk result (λ referee. referee ≡ begun size) }
     {
@@ -145,10 +143,9 @@ impl<P: Past> Referee<P> {
         })
     }
 
-    /// Begins another game. The referee is then like a new one of that size, whatever its size was
-    /// before. `MemoryFault` comes only if memory was refused; then nothing is changed.
-    ///
-    /// If the past can begin anew in place, as a `PrintPast` can, this takes no memory, and less time than a new referee.
+    /// Begins another game. The referee is then like a new one of that size, whatever its size was before. If the past can begin anew in
+    /// place, as a `PrintPast` can, this takes no memory, and less time than a new referee. `MemoryFault` comes only if memory was refused;
+    /// then nothing is changed.
     pub fn reset(&mut self, size: Size) -> Result<(), MemoryFault>
         ensures ok { OnOk result (self.new ≡ begun size) }
         ensures err { OnErr result (self.new ≡ self.old) }
@@ -161,8 +158,7 @@ impl<P: Past> Referee<P> {
         Ok(())
     }
 
-    /// The number of accepted calls (setups, turns and stays) that aren't
-    /// taken back. The oldest state is the beginning of a game.
+    /// The number of accepted calls (setups, turns and stays) that aren't taken back. The oldest state is the beginning of a game.
     pub fn depth(&self) -> usize
         ensures value { result ≡ length self.now.earlier }
         ensures begun { HaveBegun self.now }
@@ -176,16 +172,11 @@ impl<P: Past> Referee<P> {
         ensures ok { OnOk result (self.new ≡ followed_by self.old self.old.present) }
         ensures err { OnErr result (self.new ≡ self.old) }
     {
-        let present = Earlier {
-            mover: self.mover,
-            call: Call::Stay,
-        };
-        self.earlier.push(present)?;
-        Ok(())
+        let (mover, call) = (self.mover, Call::Stay);
+        Ok(self.earlier.push(Earlier { mover, call })?)
     }
 
-    /// Takes back the newest accepted call: the whole state before it is there
-    /// again. There must be such a call, so `depth` must be at least 1.
+    /// Takes back the newest accepted call: the whole state before it returns. There must be such a call, so `depth` must be at least 1.
     pub fn undo(&mut self)
         requires { 0 < length self.old.earlier }
         ensures value { self.old.earlier ≡ self.new.present ∷ self.new.earlier }
@@ -206,8 +197,7 @@ impl<P: Past> Referee<P> {
         requires { 0 < length self.now.earlier }
         ensures { IsTrue result → HadSameBoard self.now }
     {
-        let newest = self.earlier.last().unwrap();
-        !newest.call.grew()
+        !self.earlier.last().unwrap().call.grew()
     }
 
     /// Whether each accepted call after the first `depth` calls left the board as it was. False says nothing. If there are no such calls, this

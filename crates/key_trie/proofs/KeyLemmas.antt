@@ -1,7 +1,5 @@
 -- Words and their bits: where two keys differ.
-use Rattle.key_trie.proofs.Common.{◌≡◌, ◌≢◌, ℕ, ◌+◌, ◌-◌, ◌*◌, ◌<◌, ◌≤◌, ◌==◌, Bool, bit_xor, inl, inr, sym, subst, ◌∙◌, arith, cases_lt, false≢true, Agree}
-use Rattle.std.specs.Int.{bit_at}
-use Rattle.std.proofs.lemmas.Nat.Bits.{bit_at_xor, bit_at-lt}
+use Rattle.key_trie.proofs.Common.{◌≡◌, ◌≢◌, ℕ, ◌+◌, ◌-◌, ◌*◌, ◌<◌, ◌≤◌, ◌==◌, Bool, bit_xor, inl, inr, sym, subst, ◌∙◌, arith, cases_lt, false≢true, Agree, bit_at, bit_at_xor, bit_at-lt}
 
 -- Words that differ.
 

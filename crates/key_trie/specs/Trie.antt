@@ -4,7 +4,7 @@
 -- A slot is a side of a node. It names a node below if that is deeper than its own, and otherwise an item.
 use Rattle.std.specs.Prelude.{◌≡◌, ◌≢◌, ◌⊎◌, ℕ, zero, suc, ◌+◌, ◌-◌, ◌^◌, ◌<◌, ◌≤◌, ◌==◌, Bool, false, if◌then◌else◌, List, [], length, take, slice_index_or, slice_set}
 use Rattle.std.specs.Vec.{vec_capacity}
-use Rattle.key_trie.specs.declared.node.Node.{Node}
+use Rattle.key_trie.specs.declared.trie.Node.{Node}
 use Rattle.key_trie.specs.declared.trie.Slot.{Slot}
 use Rattle.key_trie.specs.declared.trie.Trie.{Trie}
 use Rattle.key_trie.specs.Key.{Agree}

@@ -20,19 +20,16 @@
 //! | Module | What it has |
 //! |---|---|
 //! | `key` | what a key is; the first bit at which two keys differ |
-//! | `node` | the node of an item |
-//! | `trie` | descents, and one item more or less |
+//! | `trie` | the trie: nodes, descents, and one item more or less |
 //!
 //! Contracts name the keys of all items, by their numbers: the trie is one of those keys (`IsTrie`). The same nodes are a trie for all keys that
 //! part where those do.
 //!
-//! The crate has no shortcuts of its own. As a whole it stands in for a search through all keys, one by one.
-//!
-//! Only `Trie::new` and `Trie::make_room` take memory. The caller makes room before it adds an item.
+//! The crate has no shortcuts of its own. As a whole it stands in for a search through all keys, one by one. Only `Trie::new` and
+//! `Trie::make_room` take memory. The caller makes room before it adds an item.
 #![tactic(auto)]
 
 mod key;
-mod node;
 mod trie;
 
 pub use key::{Key, MAX_WIDTH, first_difference};

@@ -6,7 +6,6 @@ ghost use Rattle.key_trie.specs.Key.{Agree};
 ghost use Rattle.key_trie.specs.Trie.{nodes_of, item_count, capacity_of, child_of, IsIn, child_at, HasRoom, IsTrie, IsWayTo, Passes, IsParting, IsOpening, with_named, without_newest};
 
 use crate::key::{Key, MAX_WIDTH};
-use crate::node::{Node, lone_node};
 use std::alloc::{AllocError, Global};
 
 /// The number of items that a new trie has room for.
@@ -20,6 +19,27 @@ const MOST: usize = 0xffff_ffff;
 pub struct Slot {
     pub(crate) node: u32,
     pub(crate) side: bool,
+}
+
+/// Where each descent begins.
+const ROOT: Slot = Slot {
+    node: 0,
+    side: false,
+};
+
+/// The node of an item: where the item parted from all earlier items, and what is to be found from there on.
+#[derive(Clone, Copy)]
+struct Node {
+    /// 1 more than the position of the bit; 0 if the item parted nowhere: the first item, and one that equals an earlier item.
+    depth: u16,
+    /// Whether the slot that named this node, when it was added, is that of the set bits.
+    up_side: bool,
+    /// The node of that slot; this node's own number if no slot named it.
+    up: u32,
+    /// What is to be found if the bit is clear. It is the number of a node if that node is deeper, and otherwise of an item.
+    off: u32,
+    /// The same if the bit is set.
+    on: u32,
 }
 
 /// A trie of items with keys, numbered from 0.
@@ -95,10 +115,7 @@ impl Trie {
         ensures way { (width : ℕ) (keys : ℕ → ℕ → Bool) → IsTrie width keys self.now → IsWayTo keys self.now (K.bits key.now) end result }
     {
         let nodes = self.nodes.as_slice();
-        let mut slot = Slot {
-            node: 0,
-            side: false,
-        };
+        let mut slot = ROOT;
         let mut depth: u32 = 0;
         let mut below = child(nodes, slot);
         let mut deeper = u32::from(nodes[below as usize].depth);
@@ -114,8 +131,7 @@ impl Trie {
         slot
     }
 
-    /// Whether the descent by the bits of a key passes at least `count` nodes before the position `end`. The look takes at most `count`
-    /// steps.
+    /// Whether the descent by the bits of a key passes at least `count` nodes before the position `end`. This takes at most `count` steps.
     pub fn passes<K: Key>(&self, key: &K, end: u32, count: u32) -> bool
         requires trie { (width : ℕ) × (keys : ℕ → ℕ → Bool) × IsTrie width keys self.now }
         requires some { 0 < item_count self.now }
@@ -123,13 +139,7 @@ impl Trie {
     {
         let nodes = self.nodes.as_slice();
         let mut depth: u32 = 0;
-        let mut below = child(
-            nodes,
-            Slot {
-                node: 0,
-                side: false,
-            },
-        );
+        let mut below = child(nodes, ROOT);
         'down: for _ in 0..count {
             let deeper = u32::from(nodes[below as usize].depth);
             if deeper <= depth || deeper > end {
@@ -204,8 +214,7 @@ impl Trie {
         self.insert(slot, position, key.bit(position));
     }
 
-    /// Adds an item that comes in at a slot: there it parts from the others at a position. It has that bit there. There must be room for
-    /// it.
+    /// Adds an item that comes in at a slot, where it parts from the others at a position, and has that bit. There must be room for it.
     pub fn insert(&mut self, slot: Slot, position: u32, bit: bool)
         requires slot { IsIn self.old slot }
         requires room { HasRoom self.old }
@@ -238,21 +247,32 @@ impl Trie {
         ensures fewer { item_count self.old ≡ item_count self.new + 1 }
         ensures room { capacity_of self.new ≡ capacity_of self.old }
     {
-        let newest = self.nodes.pop().unwrap();
-        let number = self.nodes.len() as u32;
-        if newest.up == number {
+        let last = self.nodes.pop().unwrap();
+        let own = self.nodes.len() as u32;
+        if last.up == own {
             return;
         }
         let slot = Slot {
-            node: newest.up,
-            side: newest.up_side,
+            node: last.up,
+            side: last.up_side,
         };
-        let below = if newest.off == number {
-            newest.on
-        } else {
-            newest.off
-        };
+        let below = if last.off == own { last.on } else { last.off };
         name(&mut self.nodes, slot, below);
+    }
+}
+
+/// The node of an item that parted nowhere.
+fn lone_node(number: u32) -> Node
+    ensures depth { result.depth ≡ 0 }
+    ensures up { result.up ≡ number }
+    ensures off { result.off ≡ number }
+{
+    Node {
+        depth: 0,
+        up_side: false,
+        up: number,
+        off: number,
+        on: number,
     }
 }
 

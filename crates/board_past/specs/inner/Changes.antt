@@ -1,7 +1,8 @@
 -- Past colourings. The newest is kept whole. Of each older one, only what leads back to it is kept: the point of a stone that was put, or
 -- rows. A change is one such row.
-use Rattle.std.specs.Prelude.{◌≡◌, ◌≢◌, ◌⊎◌, ◌==◌, ℕ, suc, ◌+◌, ◌-◌, ◌*◌, ◌%◌, ◌<◌, ◌≤◌, Bool, if◌then◌else◌, List, [], ◌∷◌, ◌++◌, IsTrue, IsFalse, All, Contains, true, false, Option, Some, None, length, take, drop, reverse, slice_index_or}
+use Rattle.std.specs.Prelude.{◌≡◌, ◌≢◌, ◌⊎◌, ◌==◌, ℕ, suc, ◌+◌, ◌-◌, ◌*◌, ◌%◌, ◌<◌, ◌≤◌, Bool, if◌then◌else◌, List, [], ◌∷◌, ◌++◌, IsTrue, IsFalse, All, Contains, true, false, Option, Some, None, length, take, drop, reverse}
 use Rattle.board_stones.specs.declared.stones.Cell.TheVariants.{Black, White, Empty}
+use Rattle.board_stones.specs.declared.stones.Colour.{Colour}
 use Rattle.board_points.specs.declared.points.Point.{Point}
 use Rattle.board_points.specs.Point.{IsOn}
 use Rattle.board_past.specs.declared.past.print_past.changes.Change.{Change}
@@ -11,8 +12,8 @@ use Rattle.board_past.specs.declared.past.print_past.changes.Older.{Older}
 use Rattle.board_past.specs.declared.past.print_past.changes.TheConstants.{FULL, MOST}
 use Rattle.board_stones.specs.Colour.{same_cell}
 use Rattle.board_stones.specs.Grid.{Grid, cell_at, with_cell, with_row}
-use Rattle.board_stones.specs.Clearing.{has_unreaching}
-use Rattle.board_past.specs.Past.{Held, PastColourings, newest_grid, stretch_of}
+use Rattle.board_stones.specs.Clearing.{has_unreaching, play}
+use Rattle.board_past.specs.Past.{Held, PastColourings, newest_grid, stretch_of, with_next}
 use Rattle.board_points.specs.Rows.{has_bit}
 
 -- the first of these colourings
@@ -131,6 +132,11 @@ pub record IsFreshStone (past : PastColourings) (point : Point) : Type 0 where
   pub there : cell_at (newest_grid past) point ≢ Empty
   pub new : (grid : Grid) → Contains (if past.newest.begins then [] else stretch_of past.older) grid → cell_at grid point ≡ Empty
 
+-- `known` is right of the newest colouring, and of a stone that is played on it
+pub record IsKnown (past : PastColourings) (colour : Colour) (point : Point) (known : Known) : Type 0 where
+  pub settled : IsTrue (is_settled known) → has_unreaching (newest_grid past) ≡ false
+  pub fresh : IsTrue (is_fresh known) → IsFreshStone (with_next past (play (newest_grid past) colour point) false) point
+
 -- each step that is marked fresh put a stone where no older colouring of the stretch has one; both lists are newest first
 abbrev pub AreFresh : List Older → List Held → Type 0
 AreFresh [] held = Unit {0}
@@ -157,12 +163,6 @@ AreStarted start [] = start ≡ 0
 AreStarted start (kept ∷ others) =
     (start ≤ suc (length others)) × (start < suc (length others) → start ≡ kept.stretch_start) × (IsTrue kept.alone → start ≡ kept.stretch_start)
     × AreStarted kept.stretch_start others
-
--- `end` is the number of changes up to the colouring with this number: all, or those before the ones that lead back to it
-abbrev pub IsEndOf : List Older → ℕ → ℕ → ℕ → Type 0
-IsEndOf older changes number end =
-    (number ≡ length older → end ≡ changes)
-    × ((kept : Older) → number < length older → end ≡ (slice_index_or older number kept).start)
 
 -- all colourings, newest first
 abbrev pub all_held : Grid → ℕ → List Older → List Change → List Held

@@ -7,7 +7,6 @@ use Rattle.board_stones.specs.declared.stones.Cell.TheVariants.{Black, White}
 use Rattle.board_stones.specs.Colour.{same_cell}
 use Rattle.board_stones.specs.Grid.{Grid, cell_at}
 use Rattle.board_past.specs.Past.{Held}
-use Rattle.board_past.specs.declared.past.print_past.hashes.Hashes.{Hashes}
 use Rattle.board_past.specs.inner.Changes.{IsNumber}
 
 -- the number that has so many bits, the lowest one first
@@ -34,7 +33,6 @@ unfoldable pub hash_of : Grid → ℕ
 hash_of grid = from_be_bytes w64 (sha512 (rows_bytes grid grid.side))
 
 -- each hash that is kept, by the number of its colouring, is that of the colouring; 0 says that none is kept
-pub record HasHashes (held : List Held) (hashes : Hashes) : Type 0 where
-  pub few : length hashes.known.items ≤ length held
-  pub right : (number : ℕ) (grid : Grid) → number < length hashes.known.items → IsNumber held number grid
-      → slice_index hashes.known.items number ≢ 0 → slice_index hashes.known.items number ≡ hash_of grid
+pub record HasHashes (held : List Held) (known : List ℕ) : Type 0 where
+  pub few : length known ≤ length held
+  pub right : (number : ℕ) (grid : Grid) → number < length known → IsNumber held number grid → slice_index known number ≢ 0 → slice_index known number ≡ hash_of grid

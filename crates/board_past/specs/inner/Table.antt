@@ -20,7 +20,7 @@ pub record IsAwakeTable (held : List Held) (table : Table) : Type 0 where
   pub linked : IsTrie WIDTH (keys_of table.hashed held) table.trie
   pub room : length table.prints.items ≤ capacity_of table.trie
   pub most : capacity_of table.trie < 2 ^ 32
-  pub kept : HasHashes held table.hashes
+  pub kept : HasHashes held table.hashes.items
 
 -- the table of these colourings, if it sleeps: it has no prints and no items, but room for all
 pub record IsAsleepTable (held : List Held) (table : Table) : Type 0 where
@@ -31,7 +31,7 @@ pub record IsAsleepTable (held : List Held) (table : Table) : Type 0 where
   pub room : table.room_asleep ≤ capacity_of table.trie
   pub prints_room : table.room_asleep ≤ vec_capacity table.prints
   pub most : capacity_of table.trie < 2 ^ 32
-  pub kept : (any : List Held) → HasHashes any table.hashes
+  pub kept : (any : List Held) → HasHashes any table.hashes.items
 
 -- the table of these colourings
 abbrev pub IsTable : List Held → Table → Type 0

@@ -32,7 +32,7 @@ ghost use Rattle.board_points.specs.Point.{IsOn};
 ghost use Rattle.board_stones.specs.Grid.{cell_at};
 ghost use Rattle.board_stones.specs.Clearing.{has_unreaching, play};
 ghost use Rattle.board_past.specs.Past.{all_of, newest_grid, with_next, present_stretch, HaveSide, PastColourings, IsPlayed};
-ghost use Rattle.board_past.specs.inner.Changes.{is_fresh, is_settled, IsFreshStone};
+ghost use Rattle.board_past.specs.inner.Changes.{IsFreshStone, IsKnown};
 ghost use Rattle.board_past.specs.inner.Emptied.{ArePlayedAtOnce, IsPrintPast};
 ghost use Rattle.board_stones.specs.Move.{IsMove, IsEmptyOnSettled, Clears};
 ghost use Rattle.board_past.specs.inner.Print.{print_of, IsPrintedMove};
@@ -52,13 +52,14 @@ use board_stones::{Board, Colour, SetupOp};
 use std::alloc::Global;
 use std::marker::Model;
 
+/// Whether a stone was played. It isn't if it would repeat a colouring.
+type Played = Result<bool, MemoryFault>;
+
 /// A past that keeps the newest colouring whole. Of each older one it keeps what leads back to it. A colouring is looked up only in the
 /// present stretch, and only if a stone may repeat one. At first it is looked for among the newest colourings. Once these haven't told in a
 /// game, or stones were set up after other steps, it is looked up by its print, a 64-bit number made from what stands on all its points. If
-/// two prints are equal, all points are compared, or hashes, if very many colourings have that print.
-///
-/// A colouring that only adds one stone to the one before it takes 12 bytes. Room for its print and for a node of the trie, 24 bytes, is
-/// kept beside.
+/// two prints are equal, all points are compared, or hashes, if very many colourings have that print. A colouring that only adds one stone to
+/// the one before it takes 12 bytes. Room for its print and for a node of the trie, 24 bytes, is kept beside.
 #[derive(Drop)]
 pub struct PrintPast {
     colourings: Colourings,
@@ -97,7 +98,7 @@ impl Past for PrintPast {
     fn holds(&self, board: &Board) -> bool {
         let start = self.colourings.stretch_start();
         'each: for number in (start..self.colourings.len()).rev() {
-            if board.same(&self.colourings.board_at(number)) {
+            if self.colourings.is_at(number, board) {
                 return true;
             }
         }
@@ -124,8 +125,7 @@ impl Past for PrintPast {
     }
 
     /// Finds captures and suicide near the stone (`find_cleared`), unless a glance shows that there are none. It glances only if `play_at_once`
-    /// would have stopped before its glance. A repetition (positional superko) is looked up by
-    /// `play_asked`. The plain ways are `Past::play` and `Board::place`; the second is taken on a board that isn't settled (`play_on_copy`).
+    /// would have stopped before its glance. The plain ways are `Past::play`, and `Board::place` on a board that isn't settled (`play_on_copy`).
     fn play(&mut self, colour: Colour, point: Point) -> Result<bool, MemoryFault> {
         let newest = self.colourings.newest();
         if !newest.is_settled() {
@@ -222,7 +222,7 @@ impl PrintPast {
 
     /// The same as `play`, on a settled board, for a stone that may capture or be suicide: a glance doesn't rule it out.
     #[inline(never)]
-    fn play_in_doubt(&mut self, colour: Colour, point: Point) -> Result<bool, MemoryFault>
+    fn play_in_doubt(&mut self, colour: Colour, point: Point) -> Played
         requires one_side { HaveSide (newest_grid self.old).side self.old }
         requires stone { IsEmptyOnSettled (newest_grid self.old) point }
         ensures { IsPlayed colour point self.old self.new result }
@@ -234,24 +234,19 @@ impl PrintPast {
         }
     }
 
-    /// The same as `play`; `cleared` is what the stone clears.
+    /// The same as `play`, on a settled board; `cleared` is what the stone clears.
     #[inline(always)]
-    fn play_clearing(
-        &mut self,
-        colour: Colour,
-        point: Point,
-        cleared: &[u64],
-    ) -> Result<bool, MemoryFault>
+    fn play_clearing(&mut self, colour: Colour, point: Point, cleared: &[u64]) -> Played
         requires one_side { HaveSide (newest_grid self.old).side self.old }
         requires stone { IsMove (newest_grid self.old) colour point cleared.now }
+        requires settled { has_unreaching (newest_grid self.old) ≡ false }
         ensures { IsPlayed colour point self.old self.new result }
     {
         self.newest().has_all_cells();
         if self.may_repeat(point) | has_point(cleared, point) {
             return self.play_asked(colour, point, cleared);
         }
-        let known = Known::new(self.newest().is_settled(), true);
-        self.play_new(colour, point, cleared, known)
+        self.play_new(colour, point, cleared, Known::Fresh)
     }
 
     /// Whether a stone that stays may bring a colouring of the present stretch back: it is put on a point that was emptied.
@@ -260,35 +255,24 @@ impl PrintPast {
         requires one_side { HaveSide (newest_grid self.now).side self.now }
         requires on_board { IsOn (newest_grid self.now).side point }
         requires empty { cell_at (newest_grid self.now) point ≡ Empty }
-        ensures never { (colour : Colour) (cleared : List ℕ) → Clears (newest_grid self.now) colour point cleared
-            → IsFalse (is_set cleared point) → IsFalse result → ¬ Contains (present_stretch self.now) (play (newest_grid self.now) colour point) }
-        ensures fresh { (colour : Colour) (cleared : List ℕ) → Clears (newest_grid self.now) colour point cleared
-            → IsFalse (is_set cleared point) → IsFalse result
-            → IsFreshStone (with_next self.now (play (newest_grid self.now) colour point) false) point }
+        ensures { (colour : Colour) (cleared : List ℕ) → Clears (newest_grid self.now) colour point cleared → IsFalse (is_set cleared point)
+            → IsFalse result → IsFreshStone (with_next self.now (play (newest_grid self.now) colour point) false) point }
     {
         self.colourings.newest().has_all_cells();
         board_points::rows::has_point(&self.emptied.rows, point)
     }
 
-    /// The same as `play_clearing`, for a stone that may bring a colouring back. Decides by positional superko whether the stone may be
-    /// played.
+    /// The same as `play_clearing`, for a stone that may bring a colouring back. Positional superko decides whether it may be played.
     #[inline(never)]
-    fn play_asked(
-        &mut self,
-        colour: Colour,
-        point: Point,
-        cleared: &[u64],
-    ) -> Result<bool, MemoryFault>
+    fn play_asked(&mut self, colour: Colour, point: Point, cleared: &[u64]) -> Played
         requires one_side { HaveSide (newest_grid self.old).side self.old }
         requires stone { IsMove (newest_grid self.old) colour point cleared.now }
+        requires settled { has_unreaching (newest_grid self.old) ≡ false }
         ensures { IsPlayed colour point self.old self.new result }
     {
         match self.decide_by_newest(colour, point, cleared) {
             Some(true) => Ok(false),
-            Some(false) => {
-                let known = Known::new(self.newest().is_settled(), false);
-                self.play_new(colour, point, cleared, known)
-            }
+            Some(false) => self.play_new(colour, point, cleared, Known::Settled),
             None => self.play_by_print(colour, point, cleared),
         }
     }
@@ -310,20 +294,12 @@ impl PrintPast {
         self.colourings.look_back(&made)
     }
 
-    /// Plays a stone that brings no colouring back; `cleared` is what the stone clears. `known` is what is known of the newest colouring,
-    /// and whether no colouring of the present stretch has a stone on that point.
+    /// Plays a stone that brings no colouring back; `cleared` is what it clears. `known` is what is to be kept of the newest colouring.
     #[inline(always)]
-    fn play_new(
-        &mut self,
-        colour: Colour,
-        point: Point,
-        cleared: &[u64],
-        known: Known,
-    ) -> Result<bool, MemoryFault>
+    fn play_new(&mut self, colour: Colour, point: Point, cleared: &[u64], known: Known) -> Played
         requires stone { IsMove (newest_grid self.old) colour point cleared.now }
         requires never { ¬ Contains (present_stretch self.old) (play (newest_grid self.old) colour point) }
-        requires settled { IsTrue (is_settled known) → has_unreaching (newest_grid self.old) ≡ false }
-        requires fresh { IsTrue (is_fresh known) → IsFreshStone (with_next self.old (play (newest_grid self.old) colour point) false) point }
+        requires known { IsKnown self.old colour point known }
         ensures { IsPlayed colour point self.old self.new result }
     {
         let print = if self.table.is_awake() {
@@ -352,30 +328,19 @@ impl PrintPast {
 
     /// The same as `play_asked`. Wakes the table and looks the colouring up. A new one goes into the trie at once.
     #[inline(never)]
-    fn play_by_print(
-        &mut self,
-        colour: Colour,
-        point: Point,
-        cleared: &[u64],
-    ) -> Result<bool, MemoryFault>
+    fn play_by_print(&mut self, colour: Colour, point: Point, cleared: &[u64]) -> Played
         requires one_side { HaveSide (newest_grid self.old).side self.old }
         requires stone { IsMove (newest_grid self.old) colour point cleared.now }
+        requires settled { has_unreaching (newest_grid self.old) ≡ false }
         ensures { IsPlayed colour point self.old self.new result }
     {
         self.at_once_below = 0;
         self.table.wake(&self.colourings);
-        let newest = self.colourings.newest();
+        let past = &self.colourings;
+        let newest = past.newest();
         newest.has_all_cells();
-        let known = Known::new(newest.is_settled(), false);
         let print = print_after_clearing(self.table.newest(), newest, colour, point, cleared);
-        let Some(gap) = gap_of_stone(
-            &self.colourings,
-            &mut self.table,
-            colour,
-            point,
-            cleared,
-            print,
-        ) else {
+        let Some(gap) = gap_of_stone(past, &mut self.table, colour, point, cleared, print) else {
             return Ok(false);
         };
         add_stone(
@@ -385,17 +350,16 @@ impl PrintPast {
             colour,
             point,
             cleared,
-            known,
+            Known::Settled,
             Some(print),
             Some(gap),
         )?;
         Ok(true)
     }
 
-    /// The same as `play`, the plain way (`Board::place`) on a copy of the newest board. It is for boards that aren't settled. Only a setup
-    /// makes these, so one colouring is compared.
+    /// The same as `play`, the plain way on a copy, for boards that aren't settled. Only a setup makes these, so one colouring is compared.
     #[inline(never)]
-    fn play_on_copy(&mut self, colour: Colour, point: Point) -> Result<bool, MemoryFault>
+    fn play_on_copy(&mut self, colour: Colour, point: Point) -> Played
         requires one_side { HaveSide (newest_grid self.old).side self.old }
         requires on_board { IsOn (newest_grid self.old).side point }
         requires empty { cell_at (newest_grid self.old) point ≡ Empty }
@@ -412,17 +376,16 @@ impl PrintPast {
     }
 }
 
-/// A number of steps below which a stone may be played at once (`PrintPast::play_at_once`). It stays right while stones are played, and while
-/// lone stones are taken back.
-fn at_once_below(colourings: &Colourings, table: &Table) -> usize
-    ensures { ArePlayedAtOnce colourings.now table.now result }
+/// A number of steps below which a stone may be played at once. It stays right while stones are played, and lone stones are taken back.
+fn at_once_below(past: &Colourings, table: &Table) -> usize
+    ensures { ArePlayedAtOnce past.now table.now result }
 {
-    if !colourings.newest().is_settled() {
+    if !past.newest().is_settled() {
         return 0;
     }
     let room = table.room_asleep.saturating_sub(1);
-    // before the next full step, `colourings` has room for each step, and keeps only the point of a lone stone
-    let steps = colourings.len() - 1;
+    // before the next full step, `past` has room for each step, and keeps only the point of a lone stone
+    let steps = past.len() - 1;
     room.min(steps - steps % FULL + (FULL - 1))
 }
 
@@ -431,7 +394,7 @@ fn at_once_below(colourings: &Colourings, table: &Table) -> usize
 // No method: between its steps the invariant of the past doesn't hold.
 #[inline(always)]
 fn add_stone(
-    colourings: &mut Colourings,
+    past: &mut Colourings,
     table: &mut Table,
     emptied: &mut Emptied,
     colour: Colour,
@@ -441,55 +404,50 @@ fn add_stone(
     print: Option<u64>,
     gap: Option<Gap>,
 ) -> Result<(), MemoryFault>
-    requires past { (below : ℕ) × IsPrintPast colourings.old table.old emptied.old below }
-    requires stone { IsMove (newest_grid colourings.old) colour point cleared.now }
-    requires settled { IsTrue (is_settled known) → has_unreaching (newest_grid colourings.old) ≡ false }
-    requires fresh { IsTrue (is_fresh known) → IsFreshStone (with_next colourings.old (play (newest_grid colourings.old) colour point) false) point }
-    requires print { IsPrintOfNext (all_of colourings.old) table.old
-        (with_next colourings.old (play (newest_grid colourings.old) colour point) false).newest print }
-    requires gap { IfSome gap (IsGap (all_of colourings.old) table.old
-        (with_next colourings.old (play (newest_grid colourings.old) colour point) false).newest) }
-    ensures ok { OnOk result (colourings.new ≡ with_next colourings.old (play (newest_grid colourings.old) colour point) false) }
-    ensures err { OnErr result (colourings.new ≡ colourings.old) }
-    ensures past { (below : ℕ) → IsPrintPast colourings.old table.old emptied.old below → IsPrintPast colourings.new table.new emptied.new below }
+    requires past { (below : ℕ) × IsPrintPast past.old table.old emptied.old below }
+    requires stone { IsMove (newest_grid past.old) colour point cleared.now }
+    requires known { IsKnown past.old colour point known }
+    requires print { IsPrintOfNext (all_of past.old) table.old (with_next past.old (play (newest_grid past.old) colour point) false).newest print }
+    requires gap { IfSome gap (IsGap (all_of past.old) table.old (with_next past.old (play (newest_grid past.old) colour point) false).newest) }
+    ensures ok { OnOk result (past.new ≡ with_next past.old (play (newest_grid past.old) colour point) false) }
+    ensures err { OnErr result (past.new ≡ past.old) }
+    ensures past { (below : ℕ) → IsPrintPast past.old table.old emptied.old below → IsPrintPast past.new table.new emptied.new below }
 {
-    colourings.newest().has_all_cells();
-    let number = colourings.len();
+    past.newest().has_all_cells();
+    let number = past.len();
     emptied.reserve(cleared.len())?;
     table.reserve(number)?;
-    colourings.add_stone(colour, point, cleared, known)?;
+    past.add_stone(colour, point, cleared, known)?;
     emptied.add(cleared, number as u32);
     table.push(print, gap);
     Ok(())
 }
 
 /// Where the colouring that a stone makes comes into the trie, which gets all colourings first; None if the present stretch has it, so that
-/// positional superko forbids the stone. `print` is that colouring's print, and `cleared` is what the stone clears. All points are looked
-/// at only if another colouring has the print.
+/// positional superko forbids the stone. `print` is the colouring's print. All points are looked at only if another one has it, too.
 fn gap_of_stone(
-    colourings: &Colourings,
+    past: &Colourings,
     table: &mut Table,
     colour: Colour,
     point: Point,
     cleared: &[u64],
     print: u64,
 ) -> Option<Gap>
-    requires table { IsAwakeTable (all_of colourings.now) table.old }
-    requires one_side { HaveSide (newest_grid colourings.now).side colourings.now }
-    requires stone { IsPrintedMove (newest_grid colourings.now) colour point cleared.now print }
-    ensures table { IsAwakeTable (all_of colourings.now) table.new }
-    ensures gap { IfSome result (IsGap (all_of colourings.now) table.new
-        (with_next colourings.now (play (newest_grid colourings.now) colour point) false).newest) }
-    ensures has { IfNone result (Contains (present_stretch colourings.now) (play (newest_grid colourings.now) colour point)) }
+    requires table { IsAwakeTable (all_of past.now) table.old }
+    requires one_side { HaveSide (newest_grid past.now).side past.now }
+    requires stone { IsPrintedMove (newest_grid past.now) colour point cleared.now print }
+    ensures table { IsAwakeTable (all_of past.now) table.new }
+    ensures gap { IfSome result (IsGap (all_of past.now) table.new (with_next past.now (play (newest_grid past.now) colour point) false).newest) }
+    ensures has { IfNone result (Contains (present_stretch past.now) (play (newest_grid past.now) colour point)) }
 {
-    let near = match table.gap(colourings, print) {
+    let near = match table.gap(past, print) {
         Ok(gap) => return Some(gap),
         Err(near) => near,
     };
-    let mut made = colourings.newest().copy();
+    let mut made = past.newest().copy();
     made.place_and_clear(colour, point, cleared);
-    if colourings.has_near(near, &made) {
+    if past.has_near(near, &made) {
         return None;
     }
-    table.gap_by_board(colourings, &made, print)
+    table.gap_by_key(past, &made, print)
 }

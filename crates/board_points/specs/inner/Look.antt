@@ -3,7 +3,6 @@
 use Rattle.std.specs.Prelude.{◌≡◌, ◌≢◌, false, ℕ, ◌+◌, ◌<◌, IsTrue, List, length}
 use Rattle.board_points.specs.declared.points.Point.{Point}
 use Rattle.board_points.specs.declared.liberty.RowStones.{RowStones}
-use Rattle.board_points.specs.declared.quick.glance.NextRow.{NextRow}
 use Rattle.board_points.specs.Linked.{IsFree}
 use Rattle.board_points.specs.Rows.{has_bit, is_set}
 
@@ -31,10 +30,10 @@ abbrev pub AreFree : List ℕ → List ℕ → Point → ℕ → ℕ → Type 0
 AreFree own others point index word =
     (col : ℕ) → col < 64 → has_bit word col ≡ false → (free : Point) × IsInRowAround point.row index col free × IsFree own others free × (free ≢ point)
 
--- what is known of the row with this index around the row `middle`, if each column with a stone is in `own` or in `others`
-pub record IsNextRow (own others : List ℕ) (middle index : ℕ) (row : NextRow) : Type 0 where
-  pub has_others : (point : Point) → point.row + 2 ≡ middle + index → IsTrue (is_set others point) → IsTrue (has_bit row.others point.col)
-  pub is_free : (col : ℕ) → col < length own → has_bit row.own col ≡ false → has_bit row.others col ≡ false
+-- what is known of the row with this index around the row `middle`, if each column with a stone is in one of two words
+pub record IsNextRow (own others : List ℕ) (middle index own_word others_word : ℕ) : Type 0 where
+  pub has_others : (point : Point) → point.row + 2 ≡ middle + index → IsTrue (is_set others point) → IsTrue (has_bit others_word point.col)
+  pub is_free : (col : ℕ) → col < length own → has_bit own_word col ≡ false → has_bit others_word col ≡ false
       → (point : Point) × IsInRowAround middle index col point × IsFree own others point
 
 -- a look at the row with the index `index + 1` around the point's row; `above` and `below` are taken columns of the rows before and after it

@@ -2,8 +2,7 @@
 //! them still are. Of the others it shows nothing.
 
 ghost use Rattle.std.specs.Prelude.{◌≡◌, ◌+◌, ◌<◌, false, ℕ, IsTrue, IsFalse, length};
-ghost use Rattle.board_points.specs.declared.points.Point.{Point};
-ghost use Rattle.board_points.specs.Point.{IsOn};
+ghost use Rattle.board_points.specs.Point.{Point, IsOn};
 ghost use Rattle.board_points.specs.Rows.{has_bit, is_set, AreOfOneBoard};
 ghost use Rattle.board_points.specs.inner.Columns.{IsOpenBeside};
 ghost use Rattle.board_points.specs.inner.Look.{AreColumnsOff, IsNextRow, IsRowAt};
@@ -13,17 +12,8 @@ use crate::columns::{all_columns, has_column, with_column};
 use crate::liberty::{RowStones, columns_beside, row_at, row_inside};
 use crate::points::Point;
 
-/// The columns of a row next to a player's stone that have a stone of the opponent (`others`), and those that have one of the player
-/// (`own`). A row outside the board counts as full of the player's stones.
-#[derive(Clone, Copy)]
-struct NextRow {
-    own: u64,
-    others: u64,
-}
-
-/// Whether a glance at the rows around a point shows two things about a player's stone there. The stone is alive, by a liberty of
-/// its own or of a stone beside it. And each stone of the opponent beside it still has an empty point beside itself. The point must be on
-/// the board of these rows.
+/// Whether a glance at the rows around a point shows two things of a player's stone there. It is alive, by a liberty of its own or of a
+/// stone beside it. And each stone of the opponent beside it keeps a liberty of its own. The point must be on the board of these rows.
 #[inline(always)]
 #[tactic(auto, using(crate::proofs::WordLemmas::columns_off))]
 pub fn leaves_all_alive(own: &[u64], others: &[u64], point: Point) -> bool
@@ -56,32 +46,27 @@ fn stands_apart(own: &[u64], others: &[u64], point: Point) -> bool
     ensures { IsTrue result → LeavesAllAlive own.now others.now point }
 {
     let row = usize::from(point.row);
-    let above = next_row(own, others, row > 0, row.wrapping_sub(1));
-    let below = next_row(own, others, row + 1 < own.len(), row + 1);
-    let touched = columns_beside(above.others, others[row], below.others);
-    let closed = above.own & below.own;
+    let (own_above, others_above) = next_row(own, others, row > 0, row.wrapping_sub(1));
+    let (own_below, others_below) = next_row(own, others, row + 1 < own.len(), row + 1);
+    let touched = columns_beside(others_above, others[row], others_below);
+    let closed = own_above & own_below;
     !has_column(touched | closed, usize::from(point.col))
 }
 
-/// The row with the number `next`, above or below a stone's row. `there` tells whether the board has it.
+/// The columns of the player's stones and of the opponent's in the row `next`, above or below a player's stone. `there` tells whether the
+/// board has this row. If not, it counts as full of the player's stones.
 #[inline(always)]
-fn next_row(own: &[u64], others: &[u64], there: bool, next: usize) -> NextRow
+fn next_row(own: &[u64], others: &[u64], there: bool, next: usize) -> (u64, u64)
     requires rows { AreOfOneBoard own.now others.now }
     requires there { IsTrue there → next < length own.now }
     ensures { (row i : ℕ) → (IsTrue there → next + 2 ≡ row + i)
         → (IsFalse there → (point : Point) → point.row + 2 ≡ row + i → is_set others.now point ≡ false)
-        → IsNextRow own.now others.now row i result }
+        → IsNextRow own.now others.now row i result.0 result.1 }
 {
     if there {
-        return NextRow {
-            own: own[next],
-            others: others[next],
-        };
+        return (own[next], others[next]);
     }
-    NextRow {
-        own: u64::MAX,
-        others: 0,
-    }
+    (u64::MAX, 0)
 }
 
 /// The same as `leaves_all_alive`, for every point.

@@ -14,9 +14,8 @@ use crate::points::Point;
 use crate::rows::{add_points, no_rows};
 use crate::size::MAX_ROWS;
 
-/// Whether the group of the stone on `from` has no liberty: no empty point beside it. `own` has the stones of its colour, `others` those of
-/// the other colour. `group` must be empty. It becomes the group if so, and otherwise gets stones of it. It is quicker to ask
-/// `lives_in_row` first.
+/// Whether the group of the stone on `from` has no liberty. `own` has the stones of its colour, `others` those of the other colour. `group`
+/// must be empty. It becomes the group if so, and otherwise gets stones of it. It is quicker to ask `lives_in_row` first.
 #[inline(never)]
 pub fn fill_if_shut(own: &[u64], others: &[u64], from: Point, group: &mut [u64]) -> bool
     requires stone { IsStone own.now others.now from }
@@ -25,8 +24,7 @@ pub fn fill_if_shut(own: &[u64], others: &[u64], from: Point, group: &mut [u64])
     ensures lives { IsFalse result → (stone : Point) × IsLiberty own.now others.now from stone }
     ensures all { length group.new ≡ length own.now }
 {
-    let joined = joined_in_row(own, from);
-    !has_liberty(own, others, from, joined, group)
+    !has_liberty(own, others, from, joined_in_row(own, from), group)
 }
 
 /// Adds the group of the stone on `from` to `shut` if it has no liberty. Otherwise adds the stones of it that were found to `alive`: so
@@ -129,13 +127,7 @@ fn is_in_one_row(own: &[u64], row: usize, joined: u64) -> bool
 /// Adds to a group stones that a row of it is linked to straight up or down, row by row. Ends at the first of these rows that has a stone with
 /// a liberty, and returns whether there is one.
 #[inline(always)]
-fn lives_ahead(
-    own: &[u64],
-    others: &[u64],
-    first: usize,
-    direction: Direction,
-    group: &mut [u64],
-) -> bool
+fn lives_ahead(own: &[u64], others: &[u64], first: usize, way: Direction, group: &mut [u64]) -> bool
     requires rows { AreOfOneBoard own.now others.now }
     requires group { IsWithin group.old own.now }
     requires first { first < length own.now }
@@ -146,7 +138,7 @@ fn lives_ahead(
     let mut row = first;
     let mut given = group[first];
     'rows: loop {
-        let next = direction.next(row);
+        let next = way.next(row);
         if next >= own.len() || own[next] & given == 0 {
             return false;
         }

@@ -2,9 +2,8 @@
 //! other. The board must be small enough that an empty column is left between the halves.
 
 ghost use Rattle.std.specs.Prelude.{◌≡◌, ◌<◌, IsTrue, length};
-ghost use Rattle.board_points.specs.declared.points.Point.{Point};
 ghost use Rattle.board_points.specs.Halves.{low_halves, high_halves, AreOnSmallBoard, ArePaired, AreOthersPaired};
-ghost use Rattle.board_points.specs.Point.{IsOn};
+ghost use Rattle.board_points.specs.Point.{Point, IsOn};
 ghost use Rattle.board_points.specs.Rows.{is_set, count_apart};
 
 use crate::columns::{all_columns, columns_left};

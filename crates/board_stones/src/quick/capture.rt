@@ -1,5 +1,4 @@
-//! What a stone clears, as rows of bits: nothing, the groups beside it that it captures, or its own group by suicide. `Board::place` is
-//! the plain way.
+//! What a stone clears, as rows of bits: nothing, the groups that it captures, or its own group (suicide). `Board::place` is the plain way.
 
 ghost use Rattle.std.specs.Prelude.{◌≡◌, ◌↔◌, [], false, IsTrue, IsFalse, length};
 ghost use Rattle.board_stones.specs.declared.stones.Cell.TheVariants.{Empty};
@@ -71,9 +70,8 @@ impl Board {
         ensures all { length shut.new ≡ self.now.side }
     {
         self.has_all_cells();
-        let beside = point.neighbours();
         let mut doubted = None;
-        for at in beside {
+        for at in point.neighbours() {
             // most of these points have no such stone, or one that lives by a stone in its row
             if self.may_be_shut(colour, at) {
                 if doubted.is_some() {
@@ -103,8 +101,7 @@ impl Board {
         let mut words = no_rows();
         let alive = &mut words[..own.len()];
         let mut some = false;
-        let beside = point.neighbours();
-        for at in beside {
+        for at in point.neighbours() {
             if self.has_stone(colour, at) && !has_point(shut, at) && !has_point(alive, at) {
                 some |= add_to_either(own, others, at, shut, alive);
             }
@@ -119,10 +116,8 @@ impl Board {
         ensures lives { IsFalse result → IsOn self.now.side point → ReachesIfStone self.now colour point }
     {
         self.has_all_cells();
-        if !self.has_stone(colour, point) {
-            return false;
-        }
-        !lives_in_row(self.rows_of(colour), self.rows_of(colour.opponent()), point)
+        self.has_stone(colour, point)
+            && !lives_in_row(self.rows_of(colour), self.rows_of(colour.opponent()), point)
     }
 
     /// Whether the group of the stone on a point has no liberty. If so, `shut` becomes the group. It must be empty.
@@ -137,12 +132,8 @@ impl Board {
         ensures all { length shut.new ≡ self.now.side }
     {
         self.has_all_cells();
-        fill_if_shut(
-            self.rows_of(colour),
-            self.rows_of(colour.opponent()),
-            point,
-            shut,
-        )
+        let others = self.rows_of(colour.opponent());
+        fill_if_shut(self.rows_of(colour), others, point, shut)
     }
 
     /// Whether a point is on the board and has a stone of a colour.

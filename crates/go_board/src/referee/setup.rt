@@ -9,37 +9,27 @@ use board_past::{MemoryFault, Past};
 use board_stones::{Colour, SetupOp};
 
 impl<P: Past> Referee<P> {
-    /// Sets up stones (AB, AW, AE) or the player (PL; SGF FF[4]).
+    /// Sets up stones (AB, AW, AE) or the player (PL; SGF FF[4]). `MemoryFault` comes only if memory was refused; then nothing is changed.
     ///
     /// - With operations: these colour their rectangles in order, whatever stood there, and nothing is cleared. A new stretch begins,
     ///   so a ko doesn't reach back over the setup. Passes are 0. The player of PL must move; without PL (None) either may.
     /// - Without operations: only the player changes, to that of PL. In this case there must be one.
-    ///
-    /// `MemoryFault` comes only if memory was refused; then nothing is changed.
     pub fn setup(&mut self, ops: &[SetupOp], player: Option<Colour>) -> Result<(), MemoryFault>
         requires areas { All (λ op. IsRectOn self.old.present.colouring.side op.area) ops.now }
         requires something { (0 < length ops.now) ⊎ IsSome player }
-        ensures ok { OnOk result (self.new
-            ≡ followed_by self.old (set_up self.old.present ops.now player)) }
+        ensures ok { OnOk result (self.new ≡ followed_by self.old (set_up self.old.present ops.now player)) }
         ensures err { OnErr result (self.new ≡ self.old) }
     {
         if ops.is_empty() {
-            let player = player.unwrap();
-            let present = Earlier {
-                mover: self.mover,
-                call: Call::Stay,
-            };
-            self.earlier.push(present)?;
-            self.mover = Mover::after(self.mover.passes(), player);
+            let (mover, call) = (self.mover, Call::Stay);
+            self.earlier.push(Earlier { mover, call })?;
+            self.mover = Mover::after(mover.passes(), player.unwrap());
             return Ok(());
         }
-        let present = Earlier {
-            mover: self.mover,
-            call: Call::Setup,
-        };
         self.earlier.reserve(1)?;
         self.past.set_up(ops)?;
-        self.earlier.push(present).unwrap();
+        let (mover, call) = (self.mover, Call::Setup);
+        self.earlier.push(Earlier { mover, call }).unwrap();
         self.mover = match player {
             None => Mover::Either,
             Some(player) => Mover::after(0, player),

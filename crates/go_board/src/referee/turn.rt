@@ -23,8 +23,7 @@ impl<P: Past> Referee<P> {
     #[inline(always)]
     pub fn turn(&mut self, colour: Colour, play: Play) -> Result<(), TurnFault>
         requires { IsPlayOn self.old.present.colouring.side play }
-        ensures illegal { (r : Reason) → (IsErrOf result (TurnFault.Illegal r)
-            ↔ (reason_of self.old.present colour play ≡ Some r)) }
+        ensures illegal { (r : Reason) → (IsErrOf result (TurnFault.Illegal r) ↔ (reason_of self.old.present colour play ≡ Some r)) }
         ensures ok { OnOk result (self.new ≡ followed_by self.old (turned self.old.present colour play)) }
         ensures err { OnErr result (self.new ≡ self.old) }
     {
@@ -38,8 +37,7 @@ impl<P: Past> Referee<P> {
     #[inline(never)]
     fn turn_in_full(&mut self, colour: Colour, play: Play) -> Result<(), TurnFault>
         requires { IsPlayOn self.old.present.colouring.side play }
-        ensures illegal { (r : Reason) → (IsErrOf result (TurnFault.Illegal r)
-            ↔ (reason_of self.old.present colour play ≡ Some r)) }
+        ensures illegal { (r : Reason) → (IsErrOf result (TurnFault.Illegal r) ↔ (reason_of self.old.present colour play ≡ Some r)) }
         ensures ok { OnOk result (self.new ≡ followed_by self.old (turned self.old.present colour play)) }
         ensures err { OnErr result (self.new ≡ self.old) }
     {
@@ -52,11 +50,8 @@ impl<P: Past> Referee<P> {
         if !self.past.play(colour, point)? {
             return Err(TurnFault::Illegal(Reason::Repeat));
         }
-        let present = Earlier {
-            mover: self.mover,
-            call: Call::Stone,
-        };
-        if self.earlier.push(present).is_err() {
+        let (mover, call) = (self.mover, Call::Stone);
+        if self.earlier.push(Earlier { mover, call }).is_err() {
             self.past.pop();
             return Err(TurnFault::Memory);
         }
@@ -75,12 +70,10 @@ impl<P: Past> Referee<P> {
             let over = self.over();
             return Some(if over { Reason::Over } else { Reason::Turn });
         }
-        if let Play::Stone(point) = play {
-            if self.board().at(point) != Cell::Empty {
-                return Some(Reason::Occupied);
-            }
+        match play {
+            Play::Stone(point) if self.board().at(point) != Cell::Empty => Some(Reason::Occupied),
+            _ => None,
         }
-        None
     }
 
     /// Takes a turn with a stone, if the past can play it at once (`Past::play_at_once`) and there is room. Returns whether it was taken.
@@ -105,10 +98,8 @@ impl<P: Past> Referee<P> {
         if !self.past.play_at_once(colour, point) {
             return false;
         }
-        self.earlier.push_reserved(Earlier {
-            mover: self.mover,
-            call: Call::Stone,
-        });
+        let (mover, call) = (self.mover, Call::Stone);
+        self.earlier.push_reserved(Earlier { mover, call });
         self.mover = Mover::after(0, colour.opponent());
         self.turns += 1;
         true
@@ -120,11 +111,9 @@ impl<P: Past> Referee<P> {
         ensures ok { OnOk result (self.new ≡ followed_by self.old (turned self.old.present colour Pass)) }
         ensures err { OnErr result (self.new ≡ self.old) }
     {
-        self.earlier.push(Earlier {
-            mover: self.mover,
-            call: Call::Pass,
-        })?;
-        self.mover = Mover::after(self.mover.passes() + 1, colour.opponent());
+        let (mover, call) = (self.mover, Call::Pass);
+        self.earlier.push(Earlier { mover, call })?;
+        self.mover = Mover::after(mover.passes() + 1, colour.opponent());
         self.turns += 1;
         Ok(())
     }

@@ -54,20 +54,6 @@ pub(crate) enum Known {
 }
 
 impl Known {
-    /// What is to be kept as known. `settled` says whether every stone is alive.
-    pub(crate) fn new(settled: bool, fresh: bool) -> Known
-        ensures settled { IsTrue (is_settled result) → IsTrue settled }
-        ensures fresh { IsTrue (is_fresh result) → IsTrue fresh }
-    {
-        if !settled {
-            Known::Nothing
-        } else if fresh {
-            Known::Fresh
-        } else {
-            Known::Settled
-        }
-    }
-
     /// Whether every stone is known to be alive.
     pub(crate) fn is_settled(self) -> bool
         ensures { result ≡ is_settled self }

@@ -5,7 +5,7 @@ ghost use Rattle.std.specs.Prelude.{◌≡◌, ◌+◌, ◌-◌, ◌*◌, ◌^�
 ghost use Rattle.std.specs.Vec.{vec_capacity};
 ghost use Rattle.board_stones.specs.Clearing.{has_unreaching, play};
 ghost use Rattle.board_past.specs.Past.{all_of, newest_grid, only, present_stretch, with_next, PastColourings};
-ghost use Rattle.board_past.specs.inner.Changes.{is_fresh, is_full, is_settled, HasRoom, IsEndOf, IsFreshStone, IsNumber, held_before, IsPast};
+ghost use Rattle.board_past.specs.inner.Changes.{is_full, is_settled, HasRoom, IsKnown, IsNumber, held_before, IsPast};
 ghost use Rattle.board_past.specs.inner.Print.{prints_of};
 ghost use Rattle.board_stones.specs.Move.{IsEmptyOnSettled, IsMove};
 ghost use Rattle.board_past.specs.inner.Key.{start_of, since};
@@ -74,19 +74,16 @@ impl Colourings {
         &self.newest
     }
 
-    /// The number of colourings: one more than there are steps, since each step leads from a colouring to the next. The next colouring
-    /// gets this number.
+    /// The number of colourings, one more than there are steps. The next colouring gets this number.
     pub(crate) fn len(&self) -> usize
         ensures { result ≡ length (all_of self.now) }
     {
         self.older.len() + 1
     }
 
-    /// Whether the newest steps show that a stone brings no colouring of the present stretch back; `cleared` is what the stone clears.
-    /// False says nothing.
-    ///
-    /// If the newest steps only put stones, no earlier colouring has a stone where the newest has none, so none has the stone that is played. No
-    /// colouring before a fresh stone has that stone. At most `LOOK_BACK` steps are gone over.
+    /// Whether the newest steps show that a stone brings no colouring of the present stretch back; `cleared` is what the stone clears. False
+    /// says nothing. If the newest steps only put stones, no earlier colouring has a stone where the newest has none, so none has the stone
+    /// that is played. No colouring before a fresh stone has that stone. At most `LOOK_BACK` steps are gone over.
     pub(crate) fn newest_steps_show_new(&self, point: Point, cleared: &[u64]) -> bool
         requires stone { (colour : Colour) × IsMove (newest_grid self.now) colour point cleared.now }
         ensures { (colour : Colour) → IsMove (newest_grid self.now) colour point cleared.now → IsTrue result
@@ -161,10 +158,13 @@ impl Colourings {
     {
         let mut board = self.newest.copy();
         board.has_all_cells();
-        let (mut at, mut end) = next_full(&self.older, self.changes.len(), number);
-        if at < self.older.len() {
-            // the changes of a full step lead back from any board
-            at -= 1;
+        let mut at = self.older.len();
+        let mut end = self.changes.len();
+        // the colouring after the next full step, whose changes lead back from any board
+        let from = number - number % FULL + FULL;
+        if from < at {
+            at = from - 1;
+            end = self.older[from].start as usize;
             let start = self.older[at].start as usize;
             take_back(&mut board, &self.changes[start..end]);
             end = start;
@@ -204,10 +204,7 @@ impl Colourings {
             }
             step_back(&mut past, kept, &self.changes[kept.start as usize..end]);
             let cost = side + (end - kept.start as usize);
-            if rows < cost {
-                return None;
-            }
-            rows -= cost;
+            rows = rows.checked_sub(cost)?;
             end = kept.start as usize;
         }
         None
@@ -248,20 +245,22 @@ impl Colourings {
         self.newest.has_all_cells();
         board.has_all_cells();
         make_room(&mut self.older, &mut self.changes)?;
+        let known = if self.newest.is_settled() {
+            Known::Settled
+        } else {
+            Known::Nothing
+        };
         let kept = Older {
             start: self.changes.len() as u32,
             stretch_start: self.stretch_start as u32,
             point: Point { col: 0, row: 0 },
             alone: false,
-            known: Known::new(self.newest.is_settled(), false),
+            known,
         };
         let all = is_full(self.older.len());
         keep_rows(&self.newest, board, all, &mut self.changes);
-        let stretch_start = if begins {
-            self.older.len() + 1
-        } else {
-            self.stretch_start
-        };
+        let next = self.older.len() + 1;
+        let stretch_start = if begins { next } else { self.stretch_start };
         self.older.push_reserved(kept);
         self.newest = board.copy();
         self.stretch_start = stretch_start;
@@ -290,8 +289,7 @@ impl Colourings {
         }
     }
 
-    /// Adds the colouring that a stone makes, to the present stretch; `cleared` is what the stone clears. `known` is what is known of the newest
-    /// colouring, and whether no colouring of the stretch has a stone on that point. After a refusal nothing is changed.
+    /// Adds the colouring that a stone makes, to the present stretch; `cleared` is what the stone clears. After a refusal nothing is changed.
     #[inline(always)]
     pub(crate) fn add_stone(
         &mut self,
@@ -301,8 +299,7 @@ impl Colourings {
         known: Known,
     ) -> Result<(), MemoryFault>
         requires stone { IsMove (newest_grid self.old) colour point cleared.now }
-        requires settled { IsTrue (is_settled known) → has_unreaching (newest_grid self.old) ≡ false }
-        requires fresh { IsTrue (is_fresh known) → IsFreshStone (with_next self.old (play (newest_grid self.old) colour point) false) point }
+        requires known { IsKnown self.old colour point known }
         requires few { length (all_of self.old) ≤ MOST }
         ensures ok { OnOk result (self.new ≡ with_next self.old (play (newest_grid self.old) colour point) false) }
         ensures err { OnErr result (self.new ≡ self.old) }
@@ -328,13 +325,12 @@ impl Colourings {
     }
 
     /// Adds the colouring that a stone makes that clears nothing, and keeps its point alone. The newest colouring must be settled, and the
-    /// next step must not be a full one. `known` is as in `add_stone`. This takes no memory.
+    /// next step must not be a full one. This takes no memory.
     #[inline(always)]
     pub(crate) fn add_lone_stone(&mut self, colour: Colour, point: Point, known: Known)
         requires stone { IsMove (newest_grid self.old) colour point [] }
-        requires known { IsTrue (is_settled known) }
-        requires settled { has_unreaching (newest_grid self.old) ≡ false }
-        requires fresh { IsTrue (is_fresh known) → IsFreshStone (with_next self.old (play (newest_grid self.old) colour point) false) point }
+        requires settled { IsTrue (is_settled known) }
+        requires known { IsKnown self.old colour point known }
         requires few { length (all_of self.old) ≤ MOST }
         requires not_full { IsFalse (is_full (length self.old.older)) }
         ensures { self.new ≡ with_next self.old (play (newest_grid self.old) colour point) false }
@@ -364,8 +360,7 @@ impl Colourings {
         self.stretch_start = kept.stretch_start as usize;
     }
 
-    /// Takes back the newest colouring, if all that is kept of its step is the point of a stone. Returns whether it was taken back. This is
-    /// quicker than `pop`.
+    /// Takes the newest colouring back if only the point of a stone is kept of its step. Returns whether it did. This is quicker than `pop`.
     #[inline(always)]
     pub(crate) fn pop_lone_stone(&mut self) -> bool
         requires { 0 < length self.old.older }
@@ -413,8 +408,7 @@ fn make_room(older: &mut Vec<Older>, changes: &mut Vec<Change>) -> Result<(), Me
     if are_most(changes.len() + MAX_ROWS) {
         return Err(MemoryFault);
     }
-    changes.reserve(MAX_ROWS)?;
-    Ok(())
+    Ok(changes.reserve(MAX_ROWS)?)
 }
 
 /// Whether so many changes are the most that are kept.
@@ -422,24 +416,4 @@ fn are_most(count: usize) -> bool
     ensures { IsTrue result ↔ 2 ^ 32 - 1 ≤ count }
 {
     count >= MOST
-}
-
-/// The colouring from which to work out the one with this number. It is the next one whose step kept all rows of the colouring
-/// before it, or else the newest. Returns its number, and how many changes there were up to it.
-fn next_full(older: &[Older], changes: usize, number: usize) -> (usize, usize)
-    requires { number ≤ length older.now }
-    ensures low { number ≤ result.0 }
-    ensures high { result.0 ≤ length older.now }
-    ensures full { result.0 < length older.now → (number < result.0) × IsTrue (is_full (result.0 - 1)) }
-    ensures end { IsEndOf older.now changes result.0 result.1 }
-{
-    if number / FULL >= older.len() / FULL {
-        return (older.len(), changes);
-    }
-    let from = (number / FULL + 1) * FULL;
-    if from < older.len() {
-        (from, older[from].start as usize)
-    } else {
-        (from, changes)
-    }
 }

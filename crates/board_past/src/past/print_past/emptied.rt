@@ -1,7 +1,5 @@
-//! The points that were emptied since the game began, as far as the present colourings go.
-//!
-//! A stone that stays can bring a colouring back only on one of these points. Taking a colouring back takes out the points that its step
-//! emptied first.
+//! The points that were emptied since the game began, as far as the present colourings go. A stone that stays can bring a colouring back only
+//! on one of these points. Taking a colouring back takes out the points that its step emptied first.
 
 ghost use Rattle.std.specs.Prelude.{◌≡◌, ◌+◌, ◌≤◌, ◌||◌, List, [], ◌∷◌, length, IsFalse, OnOk};
 ghost use Rattle.std.specs.Vec.{vec_capacity};
@@ -57,8 +55,7 @@ impl Emptied {
         ensures emptied { (held : List Held) → IsEmptied held self.old → IsEmptied held self.new }
         ensures ok { OnOk result (length self.new.log.items + rows ≤ vec_capacity self.new.log) }
     {
-        self.log.reserve(rows)?;
-        Ok(())
+        Ok(self.log.reserve(rows)?)
     }
 
     /// Adds points that the step to the colouring with this number empties.

@@ -7,7 +7,7 @@
 //! Hashes of past colourings are kept, so that none is worked out twice. This takes memory only once keys have hashes. If memory is
 //! refused, a hash isn't kept, and is worked out again.
 
-ghost use Rattle.std.specs.Prelude.{◌≡◌, ◌≢◌, ℕ, ◌<◌, ◌≤◌, ◌^◌, ◌∷◌, ◌++◌, List, IfSome, OnOk, length};
+ghost use Rattle.std.specs.Prelude.{◌≡◌, ◌≢◌, ℕ, ◌<◌, ◌≤◌, ◌^◌, ◌∷◌, ◌++◌, List, OnOk, length};
 ghost use Rattle.std.specs.Int.{w64, from_be_bytes};
 ghost use Rattle.sha2.specs.Hashers.{Holds512};
 ghost use Rattle.board_stones.specs.Grid.{Grid};
@@ -18,66 +18,42 @@ ghost use Rattle.board_past.specs.inner.Hash.{columns_bytes, hash_of, HasHashes}
 use board_points::MAX_SIDE;
 use board_stones::{Board, Colour};
 use sha2::{Digest, Sha512};
-use std::alloc::Global;
 
-/// Hashes of colourings, by the colourings' numbers.
-#[derive(Drop)]
-pub(crate) struct Hashes {
-    /// For each of the oldest colourings its hash; 0 if that isn't kept.
-    known: Vec<u64>,
+/// The hash of the colouring with this number; 0 if it isn't kept. `kept` has for each of the oldest colourings its hash, or 0.
+pub(crate) fn kept_hash(kept: &Vec<u64>, number: usize) -> u64
+    ensures { (held : List Held) (grid : Grid) → HasHashes held kept.now.items → IsNumber held number grid → result ≢ 0 → result ≡ hash_of grid }
+{
+    if number < kept.len() { kept[number] } else { 0 }
 }
 
-impl Hashes {
-    /// No hashes.
-    pub(crate) fn new(alloc: Global) -> Hashes
-        ensures { (held : List Held) → HasHashes held result }
-    {
-        Hashes {
-            known: Vec::new(alloc),
-        }
+/// Keeps the hash of the colouring with this number, if it isn't 0, and if memory isn't refused.
+pub(crate) fn keep_hash(kept: &mut Vec<u64>, number: usize, hash: u64)
+    requires { number < 2 ^ 32 }
+    ensures { (held : List Held) → number < length held → HasHashes held kept.old.items
+        → ((grid : Grid) → IsNumber held number grid → hash ≢ 0 → hash ≡ hash_of grid) → HasHashes held kept.new.items }
+{
+    if hash == 0 {
+        return;
     }
-
-    /// The hash of the colouring with this number, if it is kept.
-    pub(crate) fn get(&self, number: usize) -> Option<u64>
-        ensures { IfSome result (λ hash. (held : List Held) (grid : Grid) → HasHashes held self.now → IsNumber held number grid
-            → hash ≡ hash_of grid) }
-    {
-        if number >= self.known.len() {
-            return None;
-        }
-        let hash = self.known[number];
-        if hash == 0 { None } else { Some(hash) }
-    }
-
-    /// Keeps the hash of the colouring with this number, if it isn't 0, and if memory isn't refused.
-    pub(crate) fn keep(&mut self, number: usize, hash: u64)
-        requires { number < 2 ^ 32 }
-        ensures { (held : List Held) → number < length held → HasHashes held self.old
-            → ((grid : Grid) → IsNumber held number grid → hash ≢ 0 → hash ≡ hash_of grid) → HasHashes held self.new }
-    {
-        if hash == 0 {
+    let len = kept.len();
+    if number >= len {
+        if kept.reserve(number + 1 - len).is_err() {
             return;
         }
-        let len = self.known.len();
-        if number >= len {
-            if self.known.reserve(number + 1 - len).is_err() {
-                return;
-            }
-            'each: for _ in len..number + 1 {
-                self.known.push_reserved(0);
-            }
+        'each: for _ in len..number + 1 {
+            kept.push_reserved(0);
         }
-        self.known[number] = hash;
     }
+    kept[number] = hash;
+}
 
-    /// Forgets the hashes of all colourings but the oldest `count`.
-    pub(crate) fn go_back(&mut self, count: usize)
-        ensures some { (newest : Held) (older : List Held) → HasHashes (newest ∷ older) self.old → count ≡ length older
-            → HasHashes older self.new }
-        ensures none { count ≡ 0 → (held : List Held) → HasHashes held self.new }
-    {
-        self.known.truncate(count);
-    }
+/// Forgets the hashes of all colourings but the oldest `count`.
+pub(crate) fn forget_hashes(kept: &mut Vec<u64>, count: usize)
+    ensures some { (newest : Held) (older : List Held) → HasHashes (newest ∷ older) kept.old.items → count ≡ length older
+        → HasHashes older kept.new.items }
+    ensures none { count ≡ 0 → (held : List Held) → HasHashes held kept.new.items }
+{
+    kept.truncate(count);
 }
 
 /// The hash of a board.

@@ -67,14 +67,11 @@ impl<'a> Key for ColouringKey<'a> {
     }
 
     fn word(&self, index: u32) -> u64 {
-        if index == 0 {
-            return self.print;
-        }
-        if index == 1 {
-            return self.start;
-        }
-        if index == 2 {
-            return self.hash;
+        match index {
+            0 => return self.print,
+            1 => return self.start,
+            2 => return self.hash,
+            _ => {}
         }
         let row = (index - 3) / 2;
         if row >= u32::from(self.board.size().side()) {

@@ -1,17 +1,14 @@
-//! The print of a colouring: one number made from what stands on all its points.
-//! Usually one comparison of prints is enough to show that two colourings differ.
-//!
-//! The codes of the cells (0 for empty, 1 for black, 2 for white) are the digits of a number in base 31: row by row from the top, from left
-//! to right. The print is that number modulo 2^64.
+//! The print of a colouring: one number made from what stands on all its points. Usually one comparison of prints is enough to show that two
+//! colourings differ. The codes of the cells (0 for empty, 1 for black, 2 for white) are the digits of a number in base 31: row by row from
+//! the top, from left to right. The print is that number modulo 2^64.
 //!
 //! A print is linear: a stone adds its code times a power of 31. So it takes few instructions to work out what a stone changes. Whoever
 //! knows that can make colourings with equal prints. A hash tells those apart. This costs only bounded time: the table of prints says why.
 
 ghost use Rattle.std.specs.Prelude.{◌≡◌, ◌<◌, ◌≤◌, ◌+◌, ◌*◌, ◌%◌, ◌^◌, ℕ, IsTrue, slice_index};
 ghost use Rattle.board_stones.specs.declared.stones.Cell.TheVariants.{Empty};
-ghost use Rattle.board_stones.specs.Colour.{stone_of};
 ghost use Rattle.board_points.specs.Point.{IsOn};
-ghost use Rattle.board_stones.specs.Grid.{cell_at, with_cell};
+ghost use Rattle.board_stones.specs.Grid.{with_cell};
 ghost use Rattle.board_stones.specs.Clearing.{play};
 ghost use Rattle.board_stones.specs.Move.{IsMove};
 ghost use Rattle.board_past.specs.inner.Print.{number_within, print_of, word_number};
@@ -40,31 +37,14 @@ pub(crate) fn print_of(board: &Board) -> u64
 {
     board.has_all_cells();
     let side = board.size().side();
-    let shift = small_power(usize::from(side));
+    let base = small_power(usize::from(side));
     let mut print: u64 = 0;
     for row in 0..side {
         let black = number_of(side, board.columns_of(row, Colour::Black));
         let white = number_of(side, board.columns_of(row, Colour::White));
-        print = print
-            .wrapping_mul(shift)
-            .wrapping_add(in_both(black, white));
+        print = print.wrapping_mul(base).wrapping_add(in_both(black, white));
     }
     print
-}
-
-/// The print after a stone is put on an empty point, from the print before.
-fn print_after_stone(print: u64, board: &Board, colour: Colour, point: Point) -> u64
-    requires on_board { IsOn board.now.side point }
-    requires empty { cell_at board.now point ≡ Empty }
-    requires print { print ≡ print_of board.now }
-    ensures { result ≡ print_of (with_cell board.now point (stone_of colour)) }
-{
-    board.has_all_cells();
-    let weight = power_of(board.size().side(), point);
-    print.wrapping_add(match colour {
-        Colour::Black => weight,
-        Colour::White => weight.wrapping_mul(2),
-    })
 }
 
 /// The print after a point is emptied, from the print before. What stands on it, if anything, is looked at.
@@ -82,8 +62,7 @@ pub(crate) fn print_without(print: u64, board: &Board, point: Point) -> u64
     })
 }
 
-/// The print after a stone is put on an empty point, from the print before; `cleared` is what the stone clears. Only stones that change
-/// are looked at.
+/// The print after a stone is put on an empty point, from the print before; `cleared` is what it clears. Only what changes is looked at.
 #[inline(always)]
 pub(crate) fn print_after_clearing(
     print: u64,
@@ -97,15 +76,18 @@ pub(crate) fn print_after_clearing(
     ensures { result ≡ print_of (play board.now colour point) }
 {
     board.has_all_cells();
-    if cleared.is_empty() {
-        return print_after_stone(print, board, colour, point);
-    }
-    let is_cleared = has_point(cleared, point);
-    let put = if is_cleared {
+    let put = if has_point(cleared, point) {
         print
     } else {
-        print_after_stone(print, board, colour, point)
+        let weight = power_of(board.size().side(), point);
+        print.wrapping_add(match colour {
+            Colour::Black => weight,
+            Colour::White => weight.wrapping_mul(2),
+        })
     };
+    if cleared.is_empty() {
+        return put;
+    }
     put.wrapping_sub(print_within(board, cleared))
 }
 
@@ -115,10 +97,10 @@ fn print_within(board: &Board, points: &[u64]) -> u64
 {
     board.has_all_cells();
     let side = board.size().side();
-    let shift = small_power(usize::from(side));
+    let base = small_power(usize::from(side));
     let mut print: u64 = 0;
     for row in 0..side {
-        print = print.wrapping_mul(shift);
+        print = print.wrapping_mul(base);
         let within = columns_in(points, row);
         if within != 0 {
             let black = number_of(side, board.columns_of(row, Colour::Black) & within);

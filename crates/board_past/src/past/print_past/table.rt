@@ -3,7 +3,7 @@
 //! Once `link` has put all colourings into a trie of keys (see `key`, and the crate `key_trie`), a look-up descends this trie by the bits of
 //! the colouring that is looked up. It ends at one past colouring, and compares with that one alone: first by the print (`gap`). If that
 //! colouring has the print and is one of the newest, the boards are compared, which answers a ko at once (`Colourings::has_near`). If this doesn't
-//! tell, another descent goes on by the start of the stretch and the rows, and the two keys are compared to their ends (`gap_by_board`). So a
+//! tell, another descent goes on by the start of the stretch and the rows, and the two keys are compared to their ends (`gap_by_key`). So a
 //! look-up costs at most four descents, and two past colourings worked out, whatever was played before. It also tells where the new colouring
 //! comes in.
 //! To put a colouring into the trie that wasn't looked up costs at most two colourings worked out, its own and that at the end of its
@@ -37,7 +37,7 @@ ghost use Rattle.std.specs.Vec.{vec_capacity};
 
 use crate::fault::MemoryFault;
 use crate::past::print_past::colourings::Colourings;
-use crate::past::print_past::hashes::{Hashes, hash_of};
+use crate::past::print_past::hashes::{forget_hashes, hash_of, keep_hash, kept_hash};
 use crate::past::print_past::key::{ColouringKey, FRONT, HEAD, WIDTH, WORD};
 use board_points::columns::has_column;
 use board_stones::Board;
@@ -47,8 +47,7 @@ use std::alloc::Global;
 /// The number of colourings that a new table has room for.
 const FIRST_ROOM: usize = 256;
 
-/// The most nodes that a descent passes before keys get hashes: 64 in the print, 26 in the start of the stretch, and some on the board. No
-/// game that wasn't made for it comes near.
+/// The most nodes that a descent passes before keys get hashes. No game that wasn't made for it comes near.
 const MOST_PASSED: u32 = 128;
 
 /// The prints of colourings, oldest first, and a trie of their keys. Most colourings are never looked up, and no look-up comes before
@@ -62,8 +61,8 @@ pub(crate) struct Table {
     trie: Trie,
     /// Whether keys have hashes.
     hashed: bool,
-    /// The hashes that were worked out.
-    hashes: Hashes,
+    /// The hashes that were worked out, of the oldest colourings; 0 for any other.
+    hashes: Vec<u64>,
     /// While the table sleeps, how many colourings it has room for; 0 once it is awake.
     pub room_asleep: usize,
 }
@@ -92,14 +91,13 @@ impl Table {
             prints,
             trie,
             hashed: false,
-            hashes: Hashes::new(alloc),
+            hashes: Vec::new(alloc),
         })
     }
 
     /// Whether the table has the prints of all colourings. If not, it has none.
     pub(crate) fn is_awake(&self) -> bool
-        ensures awake { (newest : Held) (older : List Held) → IsTable (newest ∷ older) self.now → IsTrue result
-            → IsAwakeTable (newest ∷ older) self.now }
+        ensures awake { (one : Held) (older : List Held) → IsTable (one ∷ older) self.now → IsTrue result → IsAwakeTable (one ∷ older) self.now }
         ensures asleep { (held : List Held) → IsTable held self.now → IsFalse result → IsAsleepTable held self.now }
         ensures room { IsTrue result → self.now.room_asleep ≡ 0 }
     {
@@ -115,17 +113,17 @@ impl Table {
     }
 
     /// Works out the prints of all colourings, if the table sleeps. This takes no memory, since there is room for them.
-    pub(crate) fn wake(&mut self, colourings: &Colourings)
-        requires { IsTable (all_of colourings.now) self.old }
-        ensures { IsAwakeTable (all_of colourings.now) self.new }
+    pub(crate) fn wake(&mut self, past: &Colourings)
+        requires { IsTable (all_of past.now) self.old }
+        ensures { IsAwakeTable (all_of past.now) self.new }
     {
         if !self.prints.is_empty() {
             return;
         }
-        'each: for _ in 0..colourings.len() {
+        'each: for _ in 0..past.len() {
             self.prints.push_reserved(0);
         }
-        colourings.write_prints(&mut self.prints);
+        past.write_prints(&mut self.prints);
         self.room_asleep = 0;
     }
 
@@ -169,8 +167,7 @@ impl Table {
         Ok(())
     }
 
-    /// Adds a colouring. `print` is its print, or None if the table sleeps. Puts it into the trie if its gap there is known. There must
-    /// be room for it.
+    /// Adds a colouring, for which there must be room. `print` is its print, None if the table sleeps. With a gap, it goes into the trie.
     #[inline(always)]
     pub(crate) fn push(&mut self, print: Option<u64>, gap: Option<Gap>)
         requires table { (held : List Held) × (next : Held) × IsPrintOfNext held self.old next print
@@ -187,7 +184,7 @@ impl Table {
             return;
         };
         self.trie.insert(gap.slot, gap.position, gap.bit);
-        self.hashes.keep(self.prints.len() - 1, gap.hash);
+        keep_hash(&mut self.hashes, self.prints.len() - 1, gap.hash);
     }
 
     /// Takes back the newest colouring.
@@ -198,11 +195,11 @@ impl Table {
         if self.prints.is_empty() {
             return;
         }
-        if self.trie.len() == self.prints.len() {
+        let _ = self.prints.pop();
+        forget_hashes(&mut self.hashes, self.prints.len());
+        if self.trie.len() > self.prints.len() {
             self.trie.take_back();
         }
-        let _ = self.prints.pop();
-        self.hashes.go_back(self.prints.len());
     }
 
     /// Replaces all colourings by one. The table sleeps then.
@@ -213,22 +210,20 @@ impl Table {
         self.trie.clear();
         self.prints.clear();
         self.hashed = false;
-        self.hashes.go_back(0);
+        forget_hashes(&mut self.hashes, 0);
         self.room_asleep = room_of_both(&self.prints, &self.trie);
     }
 
-    /// Where a colouring with this print comes in, if none has this print; the number of one that has it otherwise. Puts all colourings into
-    /// the trie first.
-    pub(crate) fn gap(&mut self, colourings: &Colourings, print: u64) -> Result<Gap, usize>
-        requires { IsAwakeTable (all_of colourings.now) self.old }
-        ensures table { IsAwakeTable (all_of colourings.now) self.new }
+    /// Where a colouring with this print comes in; the number of one that has the print, if any has. Puts all colourings into the trie first.
+    pub(crate) fn gap(&mut self, past: &Colourings, print: u64) -> Result<Gap, usize>
+        requires { IsAwakeTable (all_of past.now) self.old }
+        ensures table { IsAwakeTable (all_of past.now) self.new }
         ensures all { item_count self.new.trie ≡ length self.new.prints.items }
-        ensures gap { IfOk result (λ gap. (next : Held) → print_of next.colouring ≡ print
-            → IsGap (all_of colourings.now) self.new next gap) }
-        ensures near { IfErr result (λ near. near < length (all_of colourings.now)) }
+        ensures gap { IfOk result (λ gap. (next : Held) → print_of next.colouring ≡ print → IsGap (all_of past.now) self.new next gap) }
+        ensures near { IfErr result (λ near. near < length (all_of past.now)) }
     {
-        self.link(colourings);
-        let key = ColouringKey::new(0, print, 0, colourings.newest());
+        self.link(past);
+        let key = ColouringKey::new(0, print, 0, past.newest());
         let from = self.trie.descend(&key, WORD);
         let near = self.trie.child(from) as usize;
         let apart = print ^ self.prints[near];
@@ -246,30 +241,25 @@ impl Table {
 
     /// Where a colouring comes in that goes on with the present stretch, by all bits of its key; None if the stretch has it. `print` is its
     /// print. The trie must have all colourings. A run asks this last, if nothing before decides positional superko.
-    pub(crate) fn gap_by_board(
-        &mut self,
-        colourings: &Colourings,
-        board: &Board,
-        print: u64,
-    ) -> Option<Gap>
-        requires table { IsAwakeTable (all_of colourings.now) self.old }
+    pub(crate) fn gap_by_key(&mut self, past: &Colourings, board: &Board, print: u64) -> Option<Gap>
+        requires table { IsAwakeTable (all_of past.now) self.old }
         requires all { item_count self.old.trie ≡ length self.old.prints.items }
-        requires side { HaveSide board.now.side colourings.now }
+        requires side { HaveSide board.now.side past.now }
         requires print { print ≡ print_of board.now }
-        ensures table { IsAwakeTable (all_of colourings.now) self.new }
-        ensures gap { IfSome result (IsGap (all_of colourings.now) self.new (with_next colourings.now board.now false).newest) }
-        ensures has { IfNone result (Contains (present_stretch colourings.now) board.now) }
+        ensures table { IsAwakeTable (all_of past.now) self.new }
+        ensures gap { IfSome result (IsGap (all_of past.now) self.new (with_next past.now board.now false).newest) }
+        ensures has { IfNone result (Contains (present_stretch past.now) board.now) }
     {
-        let start = colourings.stretch_start();
+        let start = past.stretch_start();
         if self.hash_if_deep(&ColouringKey::new(start, print, 0, board)) {
-            self.link(colourings);
+            self.link(past);
         }
         board.has_all_cells();
         let hash = if self.hashed { hash_of(board) } else { 0 };
         let key = ColouringKey::new(start, print, hash, board);
         let from = self.trie.descend(&key, WIDTH);
         let near = self.trie.child(from) as usize;
-        match self.first_apart(colourings, &key, near) {
+        match self.first_apart(past, &key, near) {
             Some(position) => Some(Gap {
                 slot: self.trie.opening(&key, from, position),
                 position,
@@ -280,55 +270,48 @@ impl Table {
         }
     }
 
-    /// The first position where a key differs from that of the colouring with this number. The colouring is worked out only if the keys
-    /// don't differ before.
-    fn first_apart(
-        &mut self,
-        colourings: &Colourings,
-        key: &ColouringKey<'_>,
-        number: usize,
-    ) -> Option<u32>
-        requires table { IsAwakeTable (all_of colourings.now) self.old }
-        requires number { number < length (all_of colourings.now) }
-        ensures table { IsAwakeTable (all_of colourings.now) self.new }
+    /// The first position where a key differs from that of a past colouring. That one is worked out only if the heads don't differ.
+    fn first_apart(&mut self, past: &Colourings, key: &ColouringKey<'_>, near: usize) -> Option<u32>
+        requires table { IsAwakeTable (all_of past.now) self.old }
+        requires number { near < length (all_of past.now) }
+        ensures table { IsAwakeTable (all_of past.now) self.new }
         ensures rest { self.new ≡ record self.old { hashes = self.new.hashes } }
-        ensures apart { IsFirstApart (bits_of key.now) (keys_of self.old.hashed (all_of colourings.now) number) result }
-        ensures cells { IfNone result ((grid : Grid) × IsNumber (all_of colourings.now) number grid
-            × (length grid.cells ≡ grid.side * grid.side)) }
+        ensures apart { IsFirstApart (bits_of key.now) (keys_of self.old.hashed (all_of past.now) near) result }
+        ensures cells { IfNone result ((grid : Grid) × IsNumber (all_of past.now) near grid × (length grid.cells ≡ grid.side * grid.side)) }
     {
-        let hash = self.take_hash(colourings, number);
-        let head = self.key_of(colourings, number, hash, colourings.newest());
+        let hash = self.take_hash(past, near);
+        let head = self.key_of(past, near, hash, past.newest());
         let position = first_difference(key, &head, HEAD / WORD);
         if position.is_some() {
             return position;
         }
-        let past = colourings.board_at(number);
-        past.has_all_cells();
-        let whole = self.key_of(colourings, number, hash, &past);
+        let board = past.board_at(near);
+        board.has_all_cells();
+        let whole = self.key_of(past, near, hash, &board);
         first_difference(key, &whole, WIDTH / WORD)
     }
 
     /// What stands for its hash in the key of the colouring with this number. A hash that is worked out is kept.
-    fn take_hash(&mut self, colourings: &Colourings, number: usize) -> u64
-        requires table { IsAwakeTable (all_of colourings.now) self.old }
-        requires number { number < length (all_of colourings.now) }
-        ensures table { IsAwakeTable (all_of colourings.now) self.new }
+    fn take_hash(&mut self, past: &Colourings, number: usize) -> u64
+        requires table { IsAwakeTable (all_of past.now) self.old }
+        requires number { number < length (all_of past.now) }
+        ensures table { IsAwakeTable (all_of past.now) self.new }
         ensures rest { self.new ≡ record self.old { hashes = self.new.hashes } }
-        ensures hash { (grid : Grid) → IsNumber (all_of colourings.now) number grid → result ≡ hash_in_key self.old.hashed grid }
+        ensures hash { (grid : Grid) → IsNumber (all_of past.now) number grid → result ≡ hash_in_key self.old.hashed grid }
     {
         if !self.hashed {
             return 0;
         }
-        if let Some(hash) = self.hashes.get(number) {
-            return hash;
+        let known = kept_hash(&self.hashes, number);
+        if known != 0 {
+            return known;
         }
-        let hash = hash_of(&colourings.board_at(number));
-        self.hashes.keep(number, hash);
+        let hash = hash_of(&past.board_at(number));
+        keep_hash(&mut self.hashes, number, hash);
         hash
     }
 
-    /// Lets keys have hashes, if they have none and a descent by this key passes more nodes than it should. Takes all colourings out of the
-    /// trie then. Returns whether it did.
+    /// Lets keys have hashes, and empties the trie, if keys have none and a descent by this one passes too many nodes. Returns whether it did.
     fn hash_if_deep(&mut self, key: &ColouringKey<'_>) -> bool
         requires table { (held : List Held) × IsAwakeTable held self.old }
         requires some { 0 < item_count self.old.trie }
@@ -348,75 +331,70 @@ impl Table {
     /// The front of the key of the colouring with this number, and for its rest a hash and the bits of a board.
     fn key_of<'a>(
         &self,
-        colourings: &Colourings,
+        past: &Colourings,
         number: usize,
         hash: u64,
         board: &'a Board,
     ) -> ColouringKey<'a>
-        requires table { IsAwakeTable (all_of colourings.now) self.now }
-        requires number { number < length (all_of colourings.now) }
-        ensures front { Agree (bits_of result) (keys_of self.now.hashed (all_of colourings.now) number) FRONT }
-        ensures head { ((grid : Grid) → IsNumber (all_of colourings.now) number grid → hash ≡ hash_in_key self.now.hashed grid)
-            → Agree (bits_of result) (keys_of self.now.hashed (all_of colourings.now) number) HEAD }
-        ensures whole { IsNumber (all_of colourings.now) number board.now → hash ≡ hash_in_key self.now.hashed board.now
-            → bits_of result ≡ keys_of self.now.hashed (all_of colourings.now) number }
+        requires table { IsAwakeTable (all_of past.now) self.now }
+        requires number { number < length (all_of past.now) }
+        ensures front { Agree (bits_of result) (keys_of self.now.hashed (all_of past.now) number) FRONT }
+        ensures head { ((grid : Grid) → IsNumber (all_of past.now) number grid → hash ≡ hash_in_key self.now.hashed grid)
+            → Agree (bits_of result) (keys_of self.now.hashed (all_of past.now) number) HEAD }
+        ensures whole { IsNumber (all_of past.now) number board.now → hash ≡ hash_in_key self.now.hashed board.now
+            → bits_of result ≡ keys_of self.now.hashed (all_of past.now) number }
     {
-        ColouringKey::new(
-            colourings.start_at(number),
-            self.prints[number],
-            hash,
-            board,
-        )
+        ColouringKey::new(past.start_at(number), self.prints[number], hash, board)
     }
 
     /// Puts all colourings into the trie.
     #[inline(never)]
-    pub(crate) fn link(&mut self, colourings: &Colourings)
-        requires { IsAwakeTable (all_of colourings.now) self.old }
-        ensures table { IsAwakeTable (all_of colourings.now) self.new }
+    pub(crate) fn link(&mut self, past: &Colourings)
+        requires { IsAwakeTable (all_of past.now) self.old }
+        ensures table { IsAwakeTable (all_of past.now) self.new }
         ensures all { item_count self.new.trie ≡ length self.new.prints.items }
     {
         'each: while self.trie.len() < self.prints.len() {
-            self.link_next(colourings);
+            self.link_next(past);
         }
     }
 
     /// Puts the oldest colouring that isn't there yet into the trie, or takes all out and lets keys have hashes.
-    fn link_next(&mut self, colourings: &Colourings)
-        requires unlinked { HasUnlinked (all_of colourings.now) self.old }
-        ensures { LinksNext (all_of colourings.now) self.old self.new }
+    fn link_next(&mut self, past: &Colourings)
+        requires unlinked { HasUnlinked (all_of past.now) self.old }
+        ensures { LinksNext (all_of past.now) self.old self.new }
     {
         let number = self.trie.len();
         if number == 0 {
             self.trie.insert_first();
             return;
         }
-        let key = self.key_of(colourings, number, 0, colourings.newest());
+        let key = self.key_of(past, number, 0, past.newest());
         let from = self.trie.descend(&key, FRONT);
         let near = self.trie.child(from) as usize;
-        let other = self.key_of(colourings, near, 0, colourings.newest());
+        let other = self.key_of(past, near, 0, past.newest());
         match first_difference(&key, &other, FRONT / WORD) {
             Some(position) => self.trie.insert_parted(&key, from, position),
-            None => self.link_by_board(colourings),
+            None => self.link_by_key(past),
         }
     }
 
     /// The same, by all bits of the keys.
-    fn link_by_board(&mut self, colourings: &Colourings)
-        requires unlinked { HasUnlinked (all_of colourings.now) self.old }
+    fn link_by_key(&mut self, past: &Colourings)
+        requires unlinked { HasUnlinked (all_of past.now) self.old }
         requires some { 0 < item_count self.old.trie }
-        ensures { LinksNext (all_of colourings.now) self.old self.new }
+        ensures { LinksNext (all_of past.now) self.old self.new }
     {
         let next = self.trie.len();
-        let board = colourings.board_at(next);
-        let hash = self.take_hash(colourings, next);
-        let key = self.key_of(colourings, next, hash, &board);
+        let board = past.board_at(next);
+        let hash = self.take_hash(past, next);
+        let key = self.key_of(past, next, hash, &board);
         if self.hash_if_deep(&key) {
             return;
         }
         let from = self.trie.descend(&key, WIDTH);
         let near = self.trie.child(from) as usize;
-        match self.first_apart(colourings, &key, near) {
+        match self.first_apart(past, &key, near) {
             Some(position) => self.trie.insert_parted(&key, from, position),
             None => self.trie.insert_equal(),
         }

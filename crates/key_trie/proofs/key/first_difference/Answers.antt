@@ -1,7 +1,5 @@
-use Rattle.key_trie.proofs.Common.{◌≡◌, ◌+◌, ◌*◌, ◌<◌, ◌^◌, bit_xor, w64, inl, inr, ap, subst, ◌∙◌, arith, cases_lt, Agree}
-use Rattle.std.specs.Int.{bit_at, trailing_zeros}
+use Rattle.key_trie.proofs.Common.{◌≡◌, ◌+◌, ◌*◌, ◌<◌, ◌^◌, bit_xor, w64, inl, inr, ap, subst, ◌∙◌, arith, cases_lt, Agree, bit_at, trailing_zeros, bit_at-trailing_zeros, bit_at-zero}
 use Rattle.std.proofs.Math.Facts.{Fits-lt-pow, Fits-xor, Fits-of_lt}
-use Rattle.std.proofs.lemmas.Nat.Bits.{bit_at-trailing_zeros, bit_at-zero}
 use Rattle.key_trie.proofs.KeyLemmas.{agree_farther, parts_there}
 use Rattle.key_trie.proofs.key.first_difference.Goals as goal
 

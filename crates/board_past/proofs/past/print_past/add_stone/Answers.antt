@@ -9,14 +9,14 @@ abbrev next_of : PastColourings → Colour → Point → Held
 next_of was k p = record { colouring = play (newest_grid was) k p; begins = false }
 
 -- the room alone is changed
-kept : (c : After-reserve-2) (below : ℕ) → IsPrintPast c.args.colourings.now c.args.table.now c.args.emptied.now below → IsPrintPast c.args.colourings.now c.reserve-2.new.self c.reserve.new.self below
+kept : (c : After-reserve-2) (below : ℕ) → IsPrintPast c.args.past.now c.args.table.now c.args.emptied.now below → IsPrintPast c.args.past.now c.reserve-2.new.self c.reserve.new.self below
 kept c below is =
-    let was = c.args.colourings.now in
+    let was = c.args.past.now in
     let held = all_of was in
     past_same was c.args.table.now c.reserve-2.new.self c.args.emptied.now c.reserve.new.self below (c.reserve-2.ensures.asleep held) (c.reserve-2.ensures.awake held) c.reserve-2.ensures.room (c.reserve.ensures.emptied held) is
 
 pub returns-in_err-reserve-clause-past : goal.returns-in_err-reserve-clause-past
-returns-in_err-reserve-clause-past c = λ below is. record { tabled = is.tabled; emptied_in = c.reserve.ensures.emptied (all_of c.args.colourings.now) is.emptied_in; at_once = is.at_once }
+returns-in_err-reserve-clause-past c = λ below is. record { tabled = is.tabled; emptied_in = c.reserve.ensures.emptied (all_of c.args.past.now) is.emptied_in; at_once = is.at_once }
 
 pub returns-in_err-reserve-2-clause-past : goal.returns-in_err-reserve-2-clause-past
 returns-in_err-reserve-2-clause-past c = kept (goal.at.returns-in_err-reserve-2-clause-past c).After-reserve-2
@@ -26,7 +26,7 @@ returns-in_err-add_stone-clause-past c = λ below is. rw c.in_err-add_stone.ensu
 
 pub returns-clause-past : goal.returns-clause-past
 returns-clause-past c = λ below is.
-    let was = c.args.colourings.now in
+    let was = c.args.past.now in
     let held = all_of was in
     let k = c.args.colour in
     let p = c.args.point in
@@ -44,7 +44,7 @@ returns-clause-past c = λ below is.
 
 pub push-requires : goal.push-requires
 push-requires c =
-    let was = c.args.colourings.now in
+    let was = c.args.past.now in
     let held = all_of was in
     let next = next_of was c.args.colour c.args.point in
     record {
@@ -58,10 +58,10 @@ push-requires c =
     }
 
 pub add_stone-requires-clause-few : goal.add_stone-requires-clause-few
-add_stone-requires-clause-few c = omega (arith, few_all (all_of c.args.colourings.now) c.args.table.now c.requires.past.1.tabled)
+add_stone-requires-clause-few c = omega (arith, few_all (all_of c.args.past.now) c.args.table.now c.requires.past.1.tabled)
 
 pub overflow_cast-number : goal.overflow_cast-number
-overflow_cast-number c = Fits-of_lt (omega (arith, c.len-number.ensures, few_all (all_of c.args.colourings.now) c.args.table.now c.requires.past.1.tabled))
+overflow_cast-number c = Fits-of_lt (omega (arith, c.len-number.ensures, few_all (all_of c.args.past.now) c.args.table.now c.requires.past.1.tabled))
 
 pub add-requires-clause-emptied : goal.add-requires-clause-emptied
-add-requires-clause-emptied c = (all_of c.args.colourings.now, c.reserve.ensures.emptied (all_of c.args.colourings.now) c.requires.past.1.emptied_in)
+add-requires-clause-emptied c = (all_of c.args.past.now, c.reserve.ensures.emptied (all_of c.args.past.now) c.requires.past.1.emptied_in)

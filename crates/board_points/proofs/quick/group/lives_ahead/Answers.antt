@@ -15,7 +15,7 @@ returns-then-taken-columns_with_liberty-ne0-clause-grows c =
     let below : next < length l.group = omega (arith, c.if-next-own.false, l.invariant.within.same) in
     let is_next = c.next-next.ensures.next (omega (arith, below, l.invariant.within.few)) in
     Grows-twice c.args.own.now c.args.group.now l.group (set l.group next (bit_or (slice_index l.group next) c.widened-taken.result.0)) l.invariant.grows
-    (Grows-take c.args.direction c.args.own.now l.group l.row next l.given c.widened-taken.result.0 is_next below l.invariant.within.within l.invariant.given c.widened-taken.ensures.within c.widened-taken.ensures.kept c.widened-taken.ensures.least)
+    (Grows-take c.args.way c.args.own.now l.group l.row next l.given c.widened-taken.result.0 is_next below l.invariant.within.within l.invariant.given c.widened-taken.ensures.within c.widened-taken.ensures.kept c.widened-taken.ensures.least)
 
 pub returns-then-taken-columns_with_liberty-ne0-clause-lives : goal.returns-then-taken-columns_with_liberty-ne0-clause-lives
 returns-then-taken-columns_with_liberty-ne0-clause-lives c = λ _.
@@ -25,7 +25,7 @@ returns-then-taken-columns_with_liberty-ne0-clause-lives c = λ _.
     let below : next < length l.group = omega (arith, c.if-next-own.false, l.invariant.within.same) in
     let is_next = c.next-next.ensures.next (omega (arith, below, l.invariant.within.few)) in (
       record { col = both.0; row = next },
-      take-there c.args.direction c.args.own.now l.group l.row next l.given c.widened-taken.result.0 is_next below l.invariant.within.within l.invariant.given c.widened-taken.ensures.within c.widened-taken.ensures.kept c.widened-taken.ensures.least both.0 both.1,
+      take-there c.args.way c.args.own.now l.group l.row next l.given c.widened-taken.result.0 is_next below l.invariant.within.within l.invariant.given c.widened-taken.ensures.within c.widened-taken.ensures.kept c.widened-taken.ensures.least both.0 both.1,
       c.columns_with_liberty.ensures.from both.0 both.2,
     )
 
@@ -37,14 +37,10 @@ rows-preserved c =
     let long : length after ≡ length l.group = length-set l.group next (bit_or (slice_index l.group next) c.widened-taken.result.0) in
     let below : next < length l.group = omega (arith, c.if-next-own.false, l.invariant.within.same) in
     let is_next = c.next-next.ensures.next (omega (arith, below, l.invariant.within.few)) in
-    let grows = Grows-take c.args.direction c.args.own.now l.group l.row next l.given c.widened-taken.result.0 is_next below l.invariant.within.within l.invariant.given c.widened-taken.ensures.within c.widened-taken.ensures.kept c.widened-taken.ensures.least in
+    let grows = Grows-take c.args.way c.args.own.now l.group l.row next l.given c.widened-taken.result.0 is_next below l.invariant.within.within l.invariant.given c.widened-taken.ensures.within c.widened-taken.ensures.kept c.widened-taken.ensures.least in
     record {
-      within = record {
-        same = long ∙ l.invariant.within.same;
-        few = omega (arith, long, l.invariant.within.few);
-        within = grows.within;
-      };
+      within = record { same = long ∙ l.invariant.within.same; few = omega (arith, long, l.invariant.within.few); within = grows.within };
       grows = Grows-twice c.args.own.now c.args.group.now l.group after l.invariant.grows grows;
       row = c.if-next-own.false;
-      given = take-there c.args.direction c.args.own.now l.group l.row next l.given c.widened-taken.result.0 is_next below l.invariant.within.within l.invariant.given c.widened-taken.ensures.within c.widened-taken.ensures.kept c.widened-taken.ensures.least;
+      given = take-there c.args.way c.args.own.now l.group l.row next l.given c.widened-taken.result.0 is_next below l.invariant.within.within l.invariant.given c.widened-taken.ensures.within c.widened-taken.ensures.kept c.widened-taken.ensures.least;
     }

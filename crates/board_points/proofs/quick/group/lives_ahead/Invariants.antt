@@ -12,4 +12,4 @@ invariant-rows l = record {
 }
 
 abbrev pub decreases-rows : goal.decreases-rows
-decreases-rows l = rows_ahead l.direction l.row
+decreases-rows l = rows_ahead l.way l.row

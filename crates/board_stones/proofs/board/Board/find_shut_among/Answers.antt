@@ -8,12 +8,7 @@ use Rattle.board_stones.proofs.board.Board.find_shut_among.Goals.{then-has_stone
 
 pub loop-at-init : goal.loop-at-init
 loop-at-init c = record {
-  adds = record {
-    shut = c.requires.shut;
-    kept = λ _ is. is;
-    none = λ _. refl;
-    some = λ no. absurd (false≢true no);
-  };
+  adds = record { shut = c.requires.shut; kept = λ _ is. is; none = λ _. refl; some = λ no. absurd (false≢true no) };
   alive = record {
     all = search rules;
     reach = λ p is. absurd (false≢true (sym (none_in_front (length c.rows_of-own.result.now) 52 c.no_rows-words.result p c.no_rows-words.ensures) ∙ is));
@@ -35,7 +30,7 @@ loop-at-preserved c =
     let other = c.rows_of-others in
     let are = rows_of_colour _ _ _ _ c.opponent.ensures other.ensures.are in
     let before = c.loop-at.invariant in
-    let turn = λ (q : Point). Contains-take_more c.neighbours-beside.result c.loop-at.at-index q (omega arith) in
+    let turn = λ (q : Point). Contains-take_more c.neighbours-at-items.result c.loop-at.at-index q (omega arith) in
     elim c.if-has_stone.branch [
       | then-has_stone+then-not-has_point+then-not-has_point-2 w ↦
           let known = c.has_stone.ensures.0 w.if-has_stone.true in
@@ -85,4 +80,4 @@ loop-at-preserved c =
 pub returns-clause-beside : goal.returns-clause-beside
 returns-clause-beside c = λ q on next.
     c.loop-at.invariant.beside q
-    (beside_cleared c.args.point q c.neighbours-beside.result c.loop-at.at-index c.args.self.now.side c.neighbours-beside.ensures (omega (arith, c.loop-at-test.false)) c.has_all_cells.ensures.few on next) on
+    (beside_cleared c.args.point q c.neighbours-at-items.result c.loop-at.at-index c.args.self.now.side c.neighbours-at-items.ensures (omega (arith, c.loop-at-test.false)) c.has_all_cells.ensures.few on next) on

@@ -9,7 +9,7 @@ loop-at-preserved c =
     let g = c.args.self.now in
     let k = c.args.colour in
     let before = c.loop-at.invariant in
-    let turn = λ (q : Point). Contains-take_more c.neighbours-beside.result c.loop-at.at-index q (omega arith) in
+    let turn = λ (q : Point). Contains-take_more c.neighbours-at-items.result c.loop-at.at-index q (omega arith) in
     elim c.if-may_be_shut.branch [
       | then-may_be_shut+else-is_some w ↦
           rw (w.doubted-is)
@@ -66,12 +66,12 @@ returns-in-Some c =
       shut = found.shut;
       some = λ some. (c.in-Some.at, found.here some);
       beside = λ some q on next stone.
-          elim (c.loop-at.invariant.beside q (beside_cleared c.args.point q c.neighbours-beside.result c.loop-at.at-index _ c.neighbours-beside.ensures (omega (arith, c.loop-at-test.false)) c.has_all_cells.ensures.few on next) on) [
+          elim (c.loop-at.invariant.beside q (beside_cleared c.args.point q c.neighbours-at-items.result c.loop-at.at-index _ c.neighbours-at-items.ensures (omega (arith, c.loop-at-test.false)) c.has_all_cells.ensures.few on next) on) [
             | inl is ↦ (let is : c.in-Some.at ≡ q = cc in inl (ap (is_set c.find_shut.new.shut) (sym is) ∙ found.here some))
             | inr reaches ↦ inr (reaches stone)
           ];
       lives = λ none q on next stone.
-          elim (c.loop-at.invariant.beside q (beside_cleared c.args.point q c.neighbours-beside.result c.loop-at.at-index _ c.neighbours-beside.ensures (omega (arith, c.loop-at-test.false)) c.has_all_cells.ensures.few on next) on) [
+          elim (c.loop-at.invariant.beside q (beside_cleared c.args.point q c.neighbours-at-items.result c.loop-at.at-index _ c.neighbours-at-items.ensures (omega (arith, c.loop-at-test.false)) c.has_all_cells.ensures.few on next) on) [
             | inl is ↦ (let is : c.in-Some.at ≡ q = cc in subst (Reaches c.args.self.now Empty) is (found.lives none))
             | inr reaches ↦ reaches stone
           ];
@@ -80,7 +80,7 @@ returns-in-Some c =
 
 pub returns-in-None-clause-lives : goal.returns-in-None-clause-lives
 returns-in-None-clause-lives c = λ _ q on next stone.
-    elim (c.loop-at.invariant.beside q (beside_cleared c.args.point q c.neighbours-beside.result c.loop-at.at-index _ c.neighbours-beside.ensures (omega (arith, c.loop-at-test.false)) c.has_all_cells.ensures.few on next) on) [
+    elim (c.loop-at.invariant.beside q (beside_cleared c.args.point q c.neighbours-at-items.result c.loop-at.at-index _ c.neighbours-at-items.ensures (omega (arith, c.loop-at-test.false)) c.has_all_cells.ensures.few on next) on) [
       | inl some ↦ absurd cc
       | inr reaches ↦ reaches stone
     ]

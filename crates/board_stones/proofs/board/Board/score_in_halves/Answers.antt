@@ -7,7 +7,7 @@ use Rattle.board_stones.proofs.board.Board.score_in_halves.Goals.{After-fill}
 
 pub fill-requires : goal.fill-requires
 fill-requires c =
-    let white = c.rows_of-2 in
+    let white = c.rows_of-white in
     record {
       same = search rules;
       few = search rules;
@@ -22,7 +22,7 @@ module _ (c : After-fill) where
   pub are : AreRowsOf c.args.self.now.side (reaches_through_own c.args.self.now Empty (stone_of Black)) (low_halves c.fill.new.rows)
       × AreRowsOf c.args.self.now.side (reaches_through_own c.args.self.now Empty (stone_of White)) (high_halves c.fill.new.rows)
   are =
-      let white = c.rows_of-2 in
+      let white = c.rows_of-white in
       areas c.args.self.now c.rows_of.result.now white.result.now c.pair_rows.new.areas c.pair_rows.new.region c.requires
       c.rows_of.ensures.are white.ensures.are c.rows_of.ensures.rows white.ensures.rows c.pair_rows.ensures.areas c.pair_rows.ensures.region
       c.fill.new.rows c.fill.ensures.grows c.fill.ensures.closed

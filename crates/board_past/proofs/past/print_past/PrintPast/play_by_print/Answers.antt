@@ -10,13 +10,13 @@ returns-in_err-add_stone c =
     let k = c.args.colour in
     let p = c.args.point in
     let never = gap_never c.self.inside.colourings c.args.self.now k p c.gap_of_stone.new.table c.in-Some.gap c.self.view_is c.in-Some.ensures.gap in
-    played_refused k p c.args.self.now c.add_stone.new.colourings c.from_residual.result c.from_residual.ensures.0 never (c.in_err-add_stone.ensures.err ∙ c.self.view_is)
+    played_refused k p c.args.self.now c.add_stone.new.past c.from_residual.result c.from_residual.ensures.0 never (c.in_err-add_stone.ensures.err ∙ c.self.view_is)
 
 pub returns : goal.returns
 returns c =
     let k = c.args.colour in
     let p = c.args.point in
-    played_new k p c.args.self.now c.add_stone.new.colourings
+    played_new k p c.args.self.now c.add_stone.new.past
     (gap_never c.self.inside.colourings c.args.self.now k p c.gap_of_stone.new.table c.in-Some.gap c.self.view_is c.in-Some.ensures.gap)
     (c.in_ok-add_stone.ensures.ok ∙ ap (λ (past : PastColourings). with_next past (play (newest_grid past) k p) false) c.self.view_is)
 

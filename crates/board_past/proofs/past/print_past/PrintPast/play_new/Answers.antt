@@ -25,7 +25,7 @@ add_stone-requires-clause-past c = (c.self.inside.at_once_below, c.self.invarian
 -- the rest is only there for speed
 pub returns-in_err-add_stone : goal.returns-in_err-add_stone
 returns-in_err-add_stone c =
-    played_refused c.args.colour c.args.point c.args.self.now c.add_stone.new.colourings c.from_residual.result c.from_residual.ensures.0 c.requires.never (c.in_err-add_stone.ensures.err ∙ c.self.view_is)
+    played_refused c.args.colour c.args.point c.args.self.now c.add_stone.new.past c.from_residual.result c.from_residual.ensures.0 c.requires.never (c.in_err-add_stone.ensures.err ∙ c.self.view_is)
 
 pub print_after_clearing-requires-clause-print : goal.print_after_clearing-requires-clause-print
 print_after_clearing-requires-clause-print c =
@@ -33,7 +33,7 @@ print_after_clearing-requires-clause-print c =
     c.newest.ensures was.newest was.older (awake (goal.at.print_after_clearing-requires-clause-print c).Then-is_awake) ∙ ap (λ (g : Grid). print_of g) (sym c.newest-newest.ensures)
 
 -- whether the stone was added or memory was refused, the number is still right
-invariant_kept : (c : After-add_stone) → IsPrintPast c.add_stone.new.colourings c.add_stone.new.table c.add_stone.new.emptied c.self.inside.at_once_below
+invariant_kept : (c : After-add_stone) → IsPrintPast c.add_stone.new.past c.add_stone.new.table c.add_stone.new.emptied c.self.inside.at_once_below
 invariant_kept c = c.add_stone.ensures.past c.self.inside.at_once_below c.self.invariant
 
 pub invariant_of-self : goal.invariant_of-self
@@ -50,11 +50,11 @@ invariant_of-self-else-len-self c = invariant_kept (goal.at.invariant_of-self-el
 pub invariant_of-self-else-is_none : goal.invariant_of-self-else-is_none
 invariant_of-self-else-is_none c = invariant_kept (goal.at.invariant_of-self-else-is_none c).After-add_stone
 
-added : (c : In_ok-add_stone) → c.add_stone.new.colourings ≡ with_next c.args.self.now (play (newest_grid c.args.self.now) c.args.colour c.args.point) false
+added : (c : In_ok-add_stone) → c.add_stone.new.past ≡ with_next c.args.self.now (play (newest_grid c.args.self.now) c.args.colour c.args.point) false
 added c = c.in_ok-add_stone.ensures.ok ∙ ap (λ (past : PastColourings). with_next past (play (newest_grid past) c.args.colour c.args.point) false) c.self.view_is
 
 pub returns-then-len-self : goal.returns-then-len-self
-returns-then-len-self c = played_new c.args.colour c.args.point c.args.self.now c.add_stone.new.colourings c.requires.never (added (goal.at.returns-then-len-self c).In_ok-add_stone)
+returns-then-len-self c = played_new c.args.colour c.args.point c.args.self.now c.add_stone.new.past c.requires.never (added (goal.at.returns-then-len-self c).In_ok-add_stone)
 
 pub returns-else-is_none : goal.returns-else-is_none
 returns-else-is_none c =

@@ -1,14 +1,12 @@
-use Rattle.board_past.proofs.Common.{◌-◌, ◌<◌, inl, inr, length, refl, sym, subst, ◌∙◌, arith, cases_eq, false≢true, same_Some, Contains, PastColourings, all_of, present_stretch, IsNumber}
+use Rattle.board_past.proofs.Common.{◌-◌, ◌<◌, inl, inr, length, refl, sym, subst, ◌∙◌, arith, cases_eq, false≢true, Contains, PastColourings, all_of, present_stretch, IsNumber}
 use Rattle.board_past.proofs.NumberLemmas.{has_number, has_colouring}
 use Rattle.board_past.proofs.past.print_past.PrintPastPast.holds.Goals as goal
 
-pub returns-then-same : goal.returns-then-same
-returns-then-same c =
+pub returns-then-is_at : goal.returns-then-is_at
+returns-then-is_at c =
     let held = all_of c.self.inside.colourings in
-    let here = c.each.number - 1 in
-    let low : here < length held = omega (arith, c.each.invariant.within, c.each-test.true) in
-    let at : IsNumber held here c.args.board.now = rw (c.same.ensures.0 c.if-same.true) c.board_at.ensures in
-    let has = has_colouring held here c.args.board.now (omega (arith, c.stretch_start-start.ensures.start, c.each-test.true)) low at in
+    let low : c.each.number - 1 < length held = omega (arith, c.each.invariant.within, c.each-test.true) in
+    let has = has_colouring held (c.each.number - 1) c.args.board.now (omega (arith, c.stretch_start-start.ensures.start, c.each-test.true)) low (c.is_at.ensures.0 c.if-is_at.true) in
     (λ _. subst (λ (past : PastColourings). Contains (present_stretch past) c.args.board.now) c.self.view_is has, λ _. refl)
 
 pub each-preserved : goal.each-preserved
@@ -17,9 +15,7 @@ each-preserved c =
       within = omega (arith, c.each.invariant.within);
       none = λ y low high at. elim (cases_eq y (c.each.number - 1)) [
         | inr other ↦ c.each.invariant.none y (omega (arith, low, other)) high at
-        | inl same ↦
-            let here = subst (λ n. IsNumber (all_of c.self.inside.colourings) n c.args.board.now) same at in
-            false≢true (sym c.if-same.false ∙ c.same.ensures.1 (same_Some _ _ (sym here ∙ c.board_at.ensures)))
+        | inl same ↦ false≢true (sym c.if-is_at.false ∙ c.is_at.ensures.1 (subst (λ n. IsNumber (all_of c.self.inside.colourings) n c.args.board.now) same at))
       ];
     }
 

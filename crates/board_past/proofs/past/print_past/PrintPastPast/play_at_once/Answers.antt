@@ -1,5 +1,6 @@
 use Rattle.board_past.proofs.Common.{◌<◌, [], length, refl, arith, IsMove, newest_grid, has_bit-zero}
 use Rattle.board_past.proofs.AtOnceLemmas.{at_once_more, tabled_more_at_once, emptied_more_at_once}
+use Rattle.board_past.proofs.RepeatLemmas.{never_back}
 use Rattle.board_past.proofs.past.print_past.PrintPastPast.play_at_once.Goals as goal
 
 pub invariant_of-self : goal.invariant_of-self
@@ -16,11 +17,14 @@ invariant_of-self c =
       at_once = at_once_more was.colourings was.table was.at_once_below k p is;
     })
 
-pub add_lone_stone-requires-clause-fresh : goal.add_lone_stone-requires-clause-fresh
-add_lone_stone-requires-clause-fresh c = λ _. rw c.self.view_is (c.may_repeat.ensures.fresh c.args.colour [] (rw (← c.self.view_is, ← c.newest-newest.ensures) (c.if-not-clears_nothing_at_a_glance.ensures refl)) (has_bit-zero c.args.point.col) (cc))
+pub add_lone_stone-requires-clause-known : goal.add_lone_stone-requires-clause-known
+add_lone_stone-requires-clause-known c = record {
+  settled = λ _. c.self.invariant.at_once.settled (omega (arith, c.if-len-self.false, c.len.ensures));
+  fresh = λ _. rw c.self.view_is (c.may_repeat.ensures c.args.colour [] (rw (← c.self.view_is, ← c.newest-newest.ensures) (c.if-not-clears_nothing_at_a_glance.ensures refl)) (has_bit-zero c.args.point.col) (cc));
+}
 
 pub returns-clause-new : goal.returns-clause-new
-returns-clause-new c = λ _. c.may_repeat.ensures.never c.args.colour [] (rw (← c.self.view_is, ← c.newest-newest.ensures) (c.if-not-clears_nothing_at_a_glance.ensures refl)) (has_bit-zero c.args.point.col) (cc)
+returns-clause-new c = λ _. never_back c.args.self.now c.args.colour c.args.point (c.may_repeat.ensures c.args.colour [] (rw (← c.self.view_is, ← c.newest-newest.ensures) (c.if-not-clears_nothing_at_a_glance.ensures refl)) (has_bit-zero c.args.point.col) (cc))
 
 pub add_lone_stone-requires-clause-stone : goal.add_lone_stone-requires-clause-stone
 add_lone_stone-requires-clause-stone c =

@@ -12,7 +12,7 @@ loop-row-preserved c =
     let base = 31 ^ g.side in
     let number = in_base base row (row_number g) in
     let side_is : g.side ≡ side = omega (arith, c.side-side.ensures.value, c.size.ensures) in
-    let shift : c.small_power-shift.result ≡ base % m = c.small_power-shift.ensures ∙ ap (λ n. 31 ^ n % m) (c.from.ensures ∙ sym side_is) in
+    let shift : c.small_power-base.result ≡ base % m = c.small_power-base.ensures ∙ ap (λ n. 31 ^ n % m) (c.from.ensures ∙ sym side_is) in
     let row_is : c.in_both.result ≡ row_number g row % m =
     c.in_both.ensures
     ∙ ap (λ n. (n + 2 * c.number_of-white.result) % m) c.number_of-black.ensures
@@ -21,7 +21,7 @@ loop-row-preserved c =
     ∙ ap (λ n. n % m) (sym (row_by_words g row side c.columns_of.result c.columns_of-in-loop-row.result side_is
     (λ col low. c.columns_of.ensures.within col (omega (arith, low, side_is)))
     (λ col low. c.columns_of-in-loop-row.ensures.within col (omega (arith, low, side_is))))) in
-    ap (λ n. (n * c.small_power-shift.result % m + c.in_both.result) % m) c.loop-row.invariant
+    ap (λ n. (n * c.small_power-base.result % m + c.in_both.result) % m) c.loop-row.invariant
     ∙ ap (λ n. (number % m * n % m + c.in_both.result) % m) shift
     ∙ ap (λ n. (number % m * (base % m) % m + n) % m) row_is
     ∙ digit_more m base number (row_number g row)

@@ -18,14 +18,14 @@ loop-row-preserved c =
     let g = c.args.board.now in
     let row = c.loop-row.row in
     let side = c.side-side.result in
-    let shift = c.small_power-shift.result in
+    let shift = c.small_power-base.result in
     let within = c.columns_in-within in
     let columns = slice_index c.args.points.now row in
     let digits : ℕ → ℕ = λ row. row_within g (slice_index c.args.points.now row) row in
     let base = 31 ^ g.side in
     let number = in_base base row digits in
     let side_is : g.side ≡ side = omega (arith, c.side-side.ensures.value, c.size.ensures) in
-    let shift_is : shift ≡ base % m = c.small_power-shift.ensures ∙ ap (λ n. 31 ^ n % m) (c.from.ensures ∙ sym side_is) in
+    let shift_is : shift ≡ base % m = c.small_power-base.ensures ∙ ap (λ n. 31 ^ n % m) (c.from.ensures ∙ sym side_is) in
     elim c.if-within-ne0.branch [
       | then-within-ne0 w ↦
           let white = w.columns_of-then-within-ne0 in

@@ -28,12 +28,12 @@ next c =
     let made = play was.newest k p in
     let kept : Older = record { start = c.len.result; stretch_start = was.stretch_start; point = p; alone = true; known = c.args.known } in
     let move = subst (λ (past : PastColourings). IsMove (newest_grid past) k p []) (sym c.self.view_is) c.requires.stone in
-    let fresh : IsTrue (is_fresh kept.known) → IsFreshStone (with_next (past_held was.newest was.stretch_start (reverse was.older.items) was.changes.items) made false) p = λ is. subst (λ (past : PastColourings). IsFreshStone (with_next past (play (newest_grid past) k p) false) p) (sym c.self.view_is) (c.requires.fresh is) in
-    let settled = ap (λ (past : PastColourings). has_unreaching (newest_grid past)) c.self.view_is ∙ c.requires.settled in
+    let fresh : IsTrue (is_fresh kept.known) → IsFreshStone (with_next (past_held was.newest was.stretch_start (reverse was.older.items) was.changes.items) made false) p = λ is. subst (λ (past : PastColourings). IsFreshStone (with_next past (play (newest_grid past) k p) false) p) (sym c.self.view_is) (c.requires.known.fresh is) in
+    let settled = ap (λ (past : PastColourings). has_unreaching (newest_grid past)) c.self.view_is ∙ c.requires.known.settled c.requires.settled in
     rw (← c.self.view_is, c.place_and_clear.ensures)
     (grown_alone was.newest made was.stretch_start was.older.items c.push_reserved.new.self.items kept was.changes.items _
     refl c.self.invariant.0 (side_play was.newest k p) move.on_board (alone_back was.newest k p [] c.has_all_cells.ensures.all move refl)
-    (search rules) refl (search rules) refl c.requires.known settled fresh (not_full (goal.at.After-push_reserved c).After-has_all_cells))
+    (search rules) refl (search rules) refl c.requires.settled settled fresh (not_full (goal.at.After-push_reserved c).After-has_all_cells))
 
 pub invariant_of-self : goal.invariant_of-self
 invariant_of-self c =

@@ -23,11 +23,11 @@ next c =
     let made = play was.newest k p in
     let kept : Older = record { start = c.len-2.result; stretch_start = was.stretch_start; point = p; alone = false; known = c.args.known } in
     let move = subst (λ (past : PastColourings). IsMove (newest_grid past) k p c.args.cleared.now) (sym c.self.view_is) c.requires.stone in
-    let fresh : IsTrue (is_fresh kept.known) → IsFreshStone (with_next (past_held was.newest was.stretch_start (reverse was.older.items) was.changes.items) made false) p = λ is. subst (λ (past : PastColourings). IsFreshStone (with_next past (play (newest_grid past) k p) false) p) (sym c.self.view_is) (c.requires.fresh is) in
+    let fresh : IsTrue (is_fresh kept.known) → IsFreshStone (with_next (past_held was.newest was.stretch_start (reverse was.older.items) was.changes.items) made false) p = λ is. subst (λ (past : PastColourings). IsFreshStone (with_next past (play (newest_grid past) k p) false) p) (sym c.self.view_is) (c.requires.known.fresh is) in
     let start : c.len-2.result ≡ length was.changes.items = search rules in
     let count : c.len.result ≡ length was.older.items = search rules in
     let cells = c.has_all_cells.ensures.all in
-    let settled : IsTrue (is_settled kept.known) → has_unreaching was.newest ≡ false = λ is. ap (λ (past : PastColourings). has_unreaching (newest_grid past)) c.self.view_is ∙ c.requires.settled is in
+    let settled : IsTrue (is_settled kept.known) → has_unreaching was.newest ≡ false = λ is. ap (λ (past : PastColourings). has_unreaching (newest_grid past)) c.self.view_is ∙ c.requires.known.settled is in
     let rows : KeepRows was.newest made c.is_full-full.result was.newest.side was.changes.items c.keep_played.new.changes.items = rw c.in_ok-make_room.ensures.changes at c.keep_played.ensures k move in
     let older : c.push_reserved.new.self.items ≡ was.older.items ++ kept ∷ [] = search rules in
     rw (← c.self.view_is, c.place_and_clear.ensures)

@@ -1,75 +1,71 @@
-use Rattle.board_past.proofs.Common.{◌≡◌, ◌-◌, ◌<◌, length, get_or, ap, subst, ◌∙◌, arith, rules, Older, all_of, IsNumber}
+use Rattle.board_past.proofs.Common.{◌≡◌, ℕ, ◌+◌, ◌-◌, ◌%◌, ◌<◌, length, get_or, ap, subst, ◌∙◌, arith, rules, eq-eqb, Fits-of_lt, Older, all_of, IsNumber}
 use Rattle.board_past.proofs.ColouringsLemmas.{IsStep, IsFullStep, count-all, step-from, there-full, there-newest, there-number}
 use Rattle.board_past.proofs.past.print_past.colourings.Colourings.board_at.Goals as goal
-use Rattle.board_past.proofs.past.print_past.colourings.Colourings.board_at.Goals.{After-next_full-at, After-deref-in-each, then-at-len, else-at-len}
+use Rattle.board_past.proofs.past.print_past.colourings.Colourings.board_at.Goals.{After-len-end, After-deref-in-each, then-from-at, else-from-at}
 
-pub next_full-at-requires : goal.next_full-at-requires
-next_full-at-requires c =
-    let p = c.self.inside in
-    rw c.deref.ensures.value (omega (arith, count-all p.newest p.stretch_start p.older.items p.changes.items c.args.self.now c.self.view_is, c.requires))
+-- the colouring after the next full step
+abbrev from : ℕ → ℕ
+from number = number - number % 128 + 128
 
--- a full step, from the newest board
-full : (c : After-next_full-at) (one : Older) → c.next_full-at.result.0 < length c.self.inside.older.items → one ≡ get_or c.self.inside.older.items (c.next_full-at.result.0 - 1) one
-    → IsFullStep (all_of c.args.self.now) c.self.inside.older.items c.self.inside.changes.items c.next_full-at.result.0 c.next_full-at.result.1 c.copy-board.result one
-full c one lt is_one =
+-- that step, from the newest board
+full : (c : After-len-end) (next one : Older) → from c.args.number < length c.self.inside.older.items → next ≡ get_or c.self.inside.older.items (from c.args.number) next
+    → one ≡ get_or c.self.inside.older.items (from c.args.number - 1) one → IsFullStep (all_of c.args.self.now) c.self.inside.older.items c.self.inside.changes.items (from c.args.number) next.start c.copy-board.result one
+full c next one low is_next is_one =
     let p = c.self.inside in
-    let to = c.next_full-at in
-    let found = rw c.deref.ensures.value at to.ensures in
-    let same : c.copy-board.result ≡ p.newest = c.copy-board.ensures in
-    there-full p.newest c.copy-board.result p.stretch_start p.older.items p.changes.items (all_of c.args.self.now) (ap all_of c.self.view_is) c.self.invariant.0 same c.has_all_cells.ensures.all
-    to.result.0 to.result.1 c.len.result one (omega (arith, (found.full lt).0)) lt (found.full lt).1 (c.len.ensures ∙ p.changes.ok.0) found.end is_one
+    there-full p.newest c.copy-board.result p.stretch_start p.older.items p.changes.items (all_of c.args.self.now) (ap all_of c.self.view_is) c.self.invariant.0 c.copy-board.ensures c.has_all_cells.ensures.all
+    (from c.args.number) next one (omega arith) low (eq-eqb ((from c.args.number - 1) % 128) 127 (omega arith)) is_next is_one
 
 pub slice_bounds-take_back-count : goal.slice_bounds-take_back-count
 slice_bounds-take_back-count c =
-    let count : c.len-2.result ≡ length c.self.inside.older.items = search rules in
-    let is = full (goal.at.slice_bounds-take_back-count c).After-next_full-at c.index.result.now (omega (arith, c.if-at-len.true, count)) c.index.ensures in
-    is.low
+    let count : c.len-at.result ≡ length c.self.inside.older.items = search rules in
+    (full (goal.at.slice_bounds-take_back-count c).After-len-end c.index.result.now c.index-then-from-at.result.now (omega (arith, c.if-from-at.true, count)) c.index.ensures c.index-then-from-at.ensures).low
 
 pub slice_bounds-take_back-start : goal.slice_bounds-take_back-start
 slice_bounds-take_back-start c =
-    let count : c.len-2.result ≡ length c.self.inside.older.items = search rules in
-    let is = full (goal.at.slice_bounds-take_back-start c).After-next_full-at c.index.result.now (omega (arith, c.if-at-len.true, count)) c.index.ensures in
+    let count : c.len-at.result ≡ length c.self.inside.older.items = search rules in
+    let is = full (goal.at.slice_bounds-take_back-start c).After-len-end c.index.result.now c.index-then-from-at.result.now (omega (arith, c.if-from-at.true, count)) c.index.ensures c.index-then-from-at.ensures in
     search rules
 
 pub slice_bounds-take_back-end : goal.slice_bounds-take_back-end
 slice_bounds-take_back-end c =
-    let count : c.len-2.result ≡ length c.self.inside.older.items = search rules in
-    let is = full (goal.at.slice_bounds-take_back-end c).After-next_full-at c.index.result.now (omega (arith, c.if-at-len.true, count)) c.index.ensures in
+    let count : c.len-at.result ≡ length c.self.inside.older.items = search rules in
+    let is = full (goal.at.slice_bounds-take_back-end c).After-len-end c.index.result.now c.index-then-from-at.result.now (omega (arith, c.if-from-at.true, count)) c.index.ensures c.index-then-from-at.ensures in
     search rules
+
+pub overflow_add-from : goal.overflow_add-from
+overflow_add-from c =
+    let p = c.self.inside in
+    Fits-of_lt (omega (arith, c.requires, count-all p.newest p.stretch_start p.older.items p.changes.items c.args.self.now c.self.view_is, p.older.ok.0, p.older.ok.1, p.older.small))
 
 pub take_back-requires : goal.take_back-requires
 take_back-requires c =
-    let count : c.len-2.result ≡ length c.self.inside.older.items = search rules in
-    let is = full (goal.at.take_back-requires c).After-next_full-at c.index.result.now (omega (arith, c.if-at-len.true, count)) c.index.ensures in
-    rw c.deref-then-at-len.ensures.value is.on
+    let count : c.len-at.result ≡ length c.self.inside.older.items = search rules in
+    rw c.deref.ensures.value (full (goal.at.take_back-requires c).After-len-end c.index.result.now c.index-then-from-at.result.now (omega (arith, c.if-from-at.true, count)) c.index.ensures c.index-then-from-at.ensures).on
 
 pub each-init : goal.each-init
 each-init c =
     let p = c.self.inside in
-    let to = c.next_full-at in
     let held = all_of c.args.self.now in
-    let found = rw c.deref.ensures.value at to.ensures in
-    let count : c.len-2.result ≡ length p.older.items = search rules in
-    elim c.if-at-len.branch [
-      | then-at-len w ↦
-          let lt : to.result.0 < length p.older.items = omega (arith, w.if-at-len.true, count) in
-          let is = full (goal.at.each-init c).After-next_full-at w.index.result.now lt w.index.ensures in
-          let board = rw w.deref-then-at-len.ensures.value at w.take_back.ensures in
+    let count : c.len-at.result ≡ length p.older.items = search rules in
+    elim c.if-from-at.branch [
+      | then-from-at w ↦
+          let low : from c.args.number < length p.older.items = omega (arith, w.if-from-at.true, count) in
+          let is = full (goal.at.each-init c).After-len-end w.index.result.now w.index-then-from-at.result.now low w.index.ensures w.index-then-from-at.ensures in
+          let board = rw w.deref.ensures.value at w.take_back.ensures in
           record {
-            there = (w.index.result.now.stretch_start, rw (w.board-is, w.at-is, w.end-is, board) is.there);
-            low = rw w.at-is (omega (arith, (found.full lt).0));
-            high = rw w.at-is (omega (arith, lt));
+            there = (w.index-then-from-at.result.now.stretch_start, rw (w.board-is, w.at-is, w.end-is, board) is.there);
+            low = rw w.at-is (omega arith);
+            high = rw w.at-is (omega (arith, low));
           }
-      | else-at-len w ↦
-          let at : to.result.0 ≡ length p.older.items = omega (arith, found.high, w.if-at-len.false, count) in
+      | else-from-at w ↦
           record {
             there = (
               p.stretch_start,
               rw (w.board-is, w.at-is, w.end-is, c.copy-board.ensures)
-                  (there-newest p.newest p.stretch_start p.older.items p.changes.items held to.result.0 to.result.1 (ap all_of c.self.view_is) at (found.end.0 at ∙ c.len.ensures ∙ p.changes.ok.0) c.self.invariant.0),
+                  (there-newest p.newest p.stretch_start p.older.items p.changes.items held c.len-at.result c.len-end.result (ap all_of c.self.view_is) count (c.len-end.ensures ∙ p.changes.ok.0) c.self.invariant.0),
             );
-            low = rw w.at-is found.low;
-            high = rw w.at-is found.high;
+            low = rw w.at-is (omega (arith, count, c.requires, count-all p.newest p.stretch_start p.older.items p.changes.items c.args.self.now c.self.view_is));
+            high = rw w.at-is (omega (arith, count));
           }
     ]
 

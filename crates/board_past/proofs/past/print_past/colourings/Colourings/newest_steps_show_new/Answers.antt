@@ -1,5 +1,5 @@
 use Rattle.board_past.proofs.Common.{common_steps, ◌≡◌, ◌≢◌, ◌<◌, length, take, reverse, ap, sym, subst, ◌∙◌, arith, rules, Contains, length-take, false≢true, not-false, length-reverse, play, Grid, IsMove, PastColourings, all_of, newest_grid, present_stretch}
-use Rattle.board_past.proofs.ColouringsLemmas.{started-le, passed_none, passed_one, passed_fresh, fresh_on, fresh_there}
+use Rattle.board_past.proofs.ColouringsLemmas.{started-le, passed_none, passed_one, passed_fresh}
 use Rattle.board_past.proofs.RepeatLemmas.{stone_put, stone_left}
 use Rattle.board_past.proofs.past.print_past.colourings.Colourings.newest_steps_show_new.Goals as goal
 use Rattle.board_past.proofs.past.print_past.colourings.Colourings.newest_steps_show_new.Goals.{After-index-step}
@@ -25,27 +25,23 @@ has_point-requires-then-is_fresh c =
     let at = (goal.at.has_point-requires-then-is_fresh c).After-index-step in
     let p = c.self.inside in
     let move = subst (λ (grid : Grid). IsMove grid c.requires.stone.0 c.args.point c.args.cleared.now) (same at) c.requires.stone.1 in
-    let on = fresh_on (all_of c.args.self.now) p.older.items p.changes.items p.stretch_start c.each.number p.newest c.args.point move.on_board move.empty c.each.invariant c.index-step.result.now (some at) c.index-step.ensures
+    let fresh = passed_fresh (all_of c.args.self.now) p.older.items p.changes.items p.stretch_start c.each.number p.newest c.args.point move.on_board move.empty c.each.invariant c.index-step.result.now (some at) c.index-step.ensures
     (λ e. omega (arith, e, c.if-number-self.false)) (sym c.is_fresh.ensures ∙ c.if-is_fresh.true) in
-    omega (arith, on.0, c.has_all_cells.ensures.few)
+    omega (arith, fresh.0.0, c.has_all_cells.ensures.few)
 
 pub returns-then-not-has_point : goal.returns-then-not-has_point
 returns-then-not-has_point c = λ colour moved _ has.
     let at = (goal.at.returns-then-not-has_point c).After-index-step in
     let p = c.self.inside in
-    let g = p.newest in
     let point = c.args.point in
     let rows = c.args.cleared.now in
     let one = c.index-step.result.now in
+    let all = c.has_all_cells.ensures.all in
     let move = subst (λ (grid : Grid). IsMove grid colour point rows) (same at) moved in
-    let fresh = sym c.is_fresh.ensures ∙ c.if-is_fresh.true in
-    let later : p.stretch_start ≢ c.each.number = λ e. omega (arith, e, c.if-number-self.false) in
-    let on = fresh_on (all_of c.args.self.now) p.older.items p.changes.items p.stretch_start c.each.number g point move.on_board move.empty c.each.invariant one (some at) c.index-step.ensures later fresh in
-    let there = fresh_there (all_of c.args.self.now) p.older.items p.changes.items p.stretch_start c.each.number g point move.on_board move.empty c.each.invariant one (some at) c.index-step.ensures later fresh in
-    passed_fresh (all_of c.args.self.now) p.older.items p.changes.items p.stretch_start c.each.number g point move.on_board move.empty c.each.invariant one (some at) c.index-step.ensures later fresh
-    (play g colour point)
-    (stone_put g colour point rows c.has_all_cells.ensures.all move (sym c.has_point.ensures ∙ c.if-has_point.false))
-    (stone_left g colour point rows c.has_all_cells.ensures.all move one.point on there (sym c.has_point-then-is_fresh.ensures ∙ c.if-not-has_point.true))
+    let fresh = passed_fresh (all_of c.args.self.now) p.older.items p.changes.items p.stretch_start c.each.number p.newest point move.on_board move.empty c.each.invariant one (some at) c.index-step.ensures
+    (λ e. omega (arith, e, c.if-number-self.false)) (sym c.is_fresh.ensures ∙ c.if-is_fresh.true) in
+    fresh.2 (play p.newest colour point) (stone_put p.newest colour point rows all move (sym c.has_point.ensures ∙ c.if-has_point.false))
+    (stone_left p.newest colour point rows all move one.point fresh.0 fresh.1 (sym c.has_point-then-is_fresh.ensures ∙ c.if-not-has_point.true))
     (subst (λ (grid : Grid). Contains (present_stretch c.args.self.now) (play grid colour point)) (same at) has)
 
 pub each-preserved : goal.each-preserved

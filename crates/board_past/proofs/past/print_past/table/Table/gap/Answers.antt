@@ -6,7 +6,7 @@ use Rattle.board_past.proofs.past.print_past.table.Table.gap.Goals as goal
 pub returns-clause-gap : goal.returns-clause-gap
 returns-clause-gap c =
     let t = c.link.new.self in
-    let held = all_of c.args.colourings.now in
+    let held = all_of c.args.past.now in
     let trie = t.trie in
     let is = c.link.ensures.table in
     let count : item_count trie ≡ length held = c.link.ensures.all ∙ tabled held t is in
@@ -40,13 +40,13 @@ returns-clause-gap c =
 
 -- these are only there for speed
 pub descend-from-requires-clause-some : goal.descend-from-requires-clause-some
-descend-from-requires-clause-some c = omega (arith, c.link.ensures.all, tabled (all_of c.args.colourings.now) c.link.new.self c.link.ensures.table)
+descend-from-requires-clause-some c = omega (arith, c.link.ensures.all, tabled (all_of c.args.past.now) c.link.new.self c.link.ensures.table)
 
 pub index-requires : goal.index-requires
-index-requires c = omega (arith, c.link.ensures.all, found_in (all_of c.args.colourings.now) c.link.new.self c.link.ensures.table c.descend-from.ensures.way (omega arith) c.child-near.ensures)
+index-requires c = omega (arith, c.link.ensures.all, found_in (all_of c.args.past.now) c.link.new.self c.link.ensures.table c.descend-from.ensures.way (omega arith) c.child-near.ensures)
 
 pub returns-then-apart-eq0-clause-near : goal.returns-then-apart-eq0-clause-near
 returns-then-apart-eq0-clause-near c =
-    let held = all_of c.args.colourings.now in
+    let held = all_of c.args.past.now in
     let is = c.link.ensures.table in
     omega (arith, c.link.ensures.all, found_in held c.link.new.self is c.descend-from.ensures.way (omega arith) c.child-near.ensures, tabled held c.link.new.self is)

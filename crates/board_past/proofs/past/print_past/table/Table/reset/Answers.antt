@@ -24,5 +24,5 @@ returns c = λ first.
       room = c.room_of_both-self.ensures.trie;
       prints_room = c.room_of_both-self.ensures.prints;
       most = omega (arith, most, c.clear.ensures.room);
-      kept = c.go_back.ensures.none refl;
+      kept = c.forget_hashes.ensures.none refl;
     })

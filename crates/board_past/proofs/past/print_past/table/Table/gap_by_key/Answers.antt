@@ -1,13 +1,13 @@
 use Rattle.board_past.proofs.Common.{◌≡◌, ◌≢◌, ℕ, Bool, true, false, ◌<◌, ◌∷◌, length, ap, subst, sym, ◌∙◌, arith, Agree, item_count, child_at, IsNearest, IsTrie, IsWayTo, Grid, WIDTH, IsAwakeTable, Held, all_of, hash_of, bits_of, hash_in_key, key_bits, keys_of, start_of, print_of, agree_self, parts_as, way_nearest}
 use Rattle.board_past.proofs.TableLemmas.{keys-next, keys-older, linked_before, repeats, side-number, tabled, found_in}
-use Rattle.board_past.proofs.past.print_past.table.Table.gap_by_board.Goals as goal
-use Rattle.board_past.proofs.past.print_past.table.Table.gap_by_board.Goals.{After-first_apart, After-has_all_cells, After-new-key, then-hash_if_deep, else-hash_if_deep, then-self, else-self}
+use Rattle.board_past.proofs.past.print_past.table.Table.gap_by_key.Goals as goal
+use Rattle.board_past.proofs.past.print_past.table.Table.gap_by_key.Goals.{After-first_apart, After-has_all_cells, After-new-key, then-hash_if_deep, else-hash_if_deep, then-self, else-self}
 
 -- the table, once keys have hashes if they need them
-all_in : (c : After-has_all_cells) → IsAwakeTable (all_of c.args.colourings.now) c.if-hash_if_deep.self × (item_count c.if-hash_if_deep.self.trie ≡ length (all_of c.args.colourings.now))
+all_in : (c : After-has_all_cells) → IsAwakeTable (all_of c.args.past.now) c.if-hash_if_deep.self × (item_count c.if-hash_if_deep.self.trie ≡ length (all_of c.args.past.now))
 all_in c = elim c.if-hash_if_deep.branch [
-  | then-hash_if_deep w ↦ rw w.self-is (w.link.ensures.table, w.link.ensures.all ∙ tabled (all_of c.args.colourings.now) w.link.new.self w.link.ensures.table)
-  | else-hash_if_deep w ↦ rw (w.self-is, c.hash_if_deep.ensures.unchanged w.if-hash_if_deep.false) (c.requires.table, c.requires.all ∙ tabled (all_of c.args.colourings.now) c.args.self.now c.requires.table)
+  | then-hash_if_deep w ↦ rw w.self-is (w.link.ensures.table, w.link.ensures.all ∙ tabled (all_of c.args.past.now) w.link.new.self w.link.ensures.table)
+  | else-hash_if_deep w ↦ rw (w.self-is, c.hash_if_deep.ensures.unchanged w.if-hash_if_deep.false) (c.requires.table, c.requires.all ∙ tabled (all_of c.args.past.now) c.args.self.now c.requires.table)
 ]
 
 hash_right : (c : After-new-key) → c.if-self.hash ≡ hash_in_key c.if-hash_if_deep.self.hashed c.args.board.now
@@ -23,13 +23,13 @@ module _ (c : After-first_apart) where
   next = record { colouring = c.args.board.now; begins = false }
 
   abbrev pub keys : ℕ → ℕ → Bool
-  keys = keys_of c.if-hash_if_deep.self.hashed (next ∷ all_of c.args.colourings.now)
+  keys = keys_of c.if-hash_if_deep.self.hashed (next ∷ all_of c.args.past.now)
 
-  pub count : item_count c.if-hash_if_deep.self.trie ≡ length (all_of c.args.colourings.now)
+  pub count : item_count c.if-hash_if_deep.self.trie ≡ length (all_of c.args.past.now)
   count = (all_in (goal.at.After-first_apart c).After-has_all_cells).1
 
   pub linked : IsTrie WIDTH keys c.if-hash_if_deep.self.trie
-  linked = linked_before c.if-hash_if_deep.self.hashed next (all_of c.args.colourings.now) c.if-hash_if_deep.self.trie (omega (arith, count)) (all_in (goal.at.After-first_apart c).After-has_all_cells).0.linked
+  linked = linked_before c.if-hash_if_deep.self.hashed next (all_of c.args.past.now) c.if-hash_if_deep.self.trie (omega (arith, count)) (all_in (goal.at.After-first_apart c).After-has_all_cells).0.linked
 
   pub descent : IsWayTo keys c.if-hash_if_deep.self.trie (bits_of c.new-key.result) WIDTH c.descend-from.result
   descent = c.descend-from.ensures.way WIDTH keys linked
@@ -38,9 +38,9 @@ module _ (c : After-first_apart) where
   found = way_nearest WIDTH keys c.if-hash_if_deep.self.trie linked c.descend-from.result descent (omega arith)
 
   -- the key that is descended by is that of the colouring
-  pub own : bits_of c.new-key.result ≡ keys (length (all_of c.args.colourings.now))
+  pub own : bits_of c.new-key.result ≡ keys (length (all_of c.args.past.now))
   own =
-      let held = all_of c.args.colourings.now in
+      let held = all_of c.args.past.now in
       let board = c.args.board.now in
       c.new-key.ensures
       ∙ ap (λ n. key_bits n c.args.print c.if-self.hash board) c.stretch_start-start.ensures.start
@@ -57,7 +57,7 @@ pub returns-in-Some-clause-gap : goal.returns-in-Some-clause-gap
 returns-in-Some-clause-gap c =
     let w = (goal.at.returns-in-Some-clause-gap c).After-first_apart in
     let t = c.if-hash_if_deep.self in
-    let held = all_of c.args.colourings.now in
+    let held = all_of c.args.past.now in
     let bits = keys w (length held) in
     let apart = c.in-Some.ensures.apart in
     let position = c.in-Some.position in
@@ -79,7 +79,7 @@ pub returns-in-None-clause-has : goal.returns-in-None-clause-has
 returns-in-None-clause-has c =
     let w = (goal.at.returns-in-None-clause-has c).After-first_apart in
     let t = c.if-hash_if_deep.self in
-    let held = all_of c.args.colourings.now in
+    let held = all_of c.args.past.now in
     let is = (all_in (goal.at.returns-in-None-clause-has c).After-has_all_cells).0 in
     let board = c.args.board.now in
     let start = c.stretch_start-start in
@@ -98,20 +98,20 @@ descend-from-requires-clause-some c = omega (arith, (all_in (goal.at.descend-fro
 
 pub first_apart-requires-clause-number : goal.first_apart-requires-clause-number
 first_apart-requires-clause-number c =
-    let held = all_of c.args.colourings.now in
+    let held = all_of c.args.past.now in
     let t = c.if-hash_if_deep.self in
     let is = all_in (goal.at.first_apart-requires-clause-number c).After-has_all_cells in
     omega (arith, is.1, found_in held t is.0 c.descend-from.ensures.way (omega arith) c.child-near.ensures, is.0.few, tabled held t is.0)
 
 pub hash_if_deep-requires-clause-some : goal.hash_if_deep-requires-clause-some
-hash_if_deep-requires-clause-some c = omega (arith, c.requires.all, tabled (all_of c.args.colourings.now) c.args.self.now c.requires.table)
+hash_if_deep-requires-clause-some c = omega (arith, c.requires.all, tabled (all_of c.args.past.now) c.args.self.now c.requires.table)
 
 pub link-requires : goal.link-requires
-link-requires c = c.hash_if_deep.ensures.table (all_of c.args.colourings.now) c.requires.table
+link-requires c = c.hash_if_deep.ensures.table (all_of c.args.past.now) c.requires.table
 
 pub descend-from-requires-clause-trie : goal.descend-from-requires-clause-trie
 descend-from-requires-clause-trie c =
-    (WIDTH, keys_of c.if-hash_if_deep.self.hashed (all_of c.args.colourings.now), (all_in (goal.at.descend-from-requires-clause-trie c).After-has_all_cells).0.linked)
+    (WIDTH, keys_of c.if-hash_if_deep.self.hashed (all_of c.args.past.now), (all_in (goal.at.descend-from-requires-clause-trie c).After-has_all_cells).0.linked)
 
 pub first_apart-requires-clause-table : goal.first_apart-requires-clause-table
 first_apart-requires-clause-table c = (all_in (goal.at.first_apart-requires-clause-table c).After-has_all_cells).0
