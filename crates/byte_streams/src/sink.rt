@@ -18,24 +18,21 @@ const CAPACITY: usize = 65_536;
 #[error("the sink failed")]
 pub struct SinkFault;
 
-/// Takes bytes in order, and passes them on.
-///
-/// A failure is final: a sink that has failed once fails at every later call, and passes nothing more on.
+/// Takes bytes in order, and passes them on. A failure is final: a sink that has failed once fails at every later call, and passes nothing
+/// more on.
 pub trait Sink {
     /// How often it has failed, the bytes that it has taken, and the prefix of these that it has delivered.
     ghost state: { Self → SinkState };
 
-    /// Takes bytes from the front of `bytes`, which must not be empty. Returns how many it took, at least one.
-    ///
-    /// If the sink fails, it takes nothing, and its count of failures rises by one.
+    /// Takes bytes from the front of `bytes`, which must not be empty. Returns how many it took, at least one. If the sink fails, it takes
+    /// nothing, and its count of failures rises by one.
     fn put(&mut self, bytes: &[u8]) -> Result<usize, SinkFault>
         requires some { 0 < length bytes.now }
         requires countable { (state self.old).failures < u64.MAX }
         ensures { IsPut (state self.old) (state self.new) bytes.now result };
 
-    /// Delivers all bytes that the sink has taken. A flush takes no bytes.
-    ///
-    /// If the sink fails, its count of failures rises by one, and what it held back may be delivered in part.
+    /// Delivers all bytes that the sink has taken. A flush takes no bytes. If the sink fails, its count of failures rises by one, and what
+    /// it held back may be delivered in part.
     fn flush(&mut self) -> Result<(), SinkFault>
         requires countable { (state self.old).failures < u64.MAX }
         ensures { IsFlush (state self.old) (state self.new) result };
@@ -48,11 +45,9 @@ pub trait Sink {
     ghost delivers_front: { (sink : Self) → DeliversFront (state sink) };
 }
 
-/// A sink over any writer, which may be a `&mut Vec<u8>`. If the writer reports its bytes, the sink reports
-/// those that it has taken.
-///
-/// It holds nothing back: what it takes is passed on to the writer. Its flush flushes the writer. An interrupted write counts as
-/// failed, and so does a write of 0 bytes. After a failure the writer isn't called again.
+/// A sink over any writer, which may be a `&mut Vec<u8>`. If the writer reports its bytes, the sink reports those that it has taken. It holds
+/// nothing back: what it takes is passed on to the writer. Its flush flushes the writer. An interrupted write counts as failed, and so does
+/// a write of 0 bytes. After a failure the writer isn't called again.
 #[derive(Debug, Drop)]
 pub struct WriteSink<W: Write + Drop> {
     writer: W,
@@ -62,11 +57,8 @@ pub struct WriteSink<W: Write + Drop> {
 impl<W: Write + Drop> WriteSink<W> {
     /// A sink that writes to the writer.
     pub fn new(writer: W) -> WriteSink<W>
-        ensures { ⟦<WriteSink<W> as Sink>⟧.state result ≡ record {
-          failures = 0;
-          taken = W.contents writer;
-          delivered = W.contents writer;
-        } }
+        ensures { ⟦<WriteSink<W> as Sink>⟧.state result
+            ≡ record { failures = 0; taken = W.contents writer; delivered = W.contents writer } }
     {
         WriteSink {
             writer,
@@ -83,11 +75,7 @@ impl<W: Write + Drop> WriteSink<W> {
 }
 
 impl<W: Write + Drop> Sink for WriteSink<W> {
-    ghost state = { λ s. record {
-      failures = s.failures;
-      taken = W.contents s.writer;
-      delivered = W.contents s.writer;
-    } };
+    ghost state = { λ s. record { failures = s.failures; taken = W.contents s.writer; delivered = W.contents s.writer } };
 
     ghost delivers_front = { λ s. ([], Appends-nil (W.contents s.writer)) };
 
@@ -115,24 +103,19 @@ impl<W: Write + Drop> Sink for WriteSink<W> {
     }
 }
 
-/// A sink over any writer that holds back up to 65,536 bytes.
+/// A sink over any writer that holds back up to 65,536 bytes. It writes what it holds back when there is no room for more, and at a flush,
+/// which also flushes the writer. If it gets more bytes at once than it can hold, it passes them straight to the writer. If the writer
+/// reports its bytes, the sink reports those that it has taken and delivered.
 ///
-/// It writes what it holds back when there is no room for more, and at a flush, which also flushes
-/// the writer. If it gets more bytes at once than it can hold, it passes them straight to the writer. If
-/// the writer reports its bytes, the sink reports those that it has taken and delivered.
-///
-/// An interrupted write counts as failed, and so does a write of 0 bytes. After a failure the writer isn't
-/// called again. Dropping the sink doesn't call the writer either: the bytes that are held back are lost.
+/// An interrupted write counts as failed, and so does a write of 0 bytes. After a failure the writer isn't called again. Dropping the sink
+/// doesn't call the writer either: the bytes that are held back are lost.
 #[derive(Debug, Drop)]
 pub struct BufferedSink<W: Write + Drop> {
     writer: W,
-
     /// The bytes held back. If a write failed, the first `handed` of them were written already.
     buffer: Vec<u8>,
-
     /// The number of bytes at the buffer's front that were written; 0 until a write fails.
     handed: usize,
-
     failures: u64,
     ghost capacity: { 65536 ≤ vec_capacity buffer },
     ghost within: { vec_len buffer ≤ 65536 },
@@ -145,10 +128,9 @@ impl<W: Write + Drop> BufferedSink<W> {
         ensures { IfOk result (λ sink. ⟦<BufferedSink<W> as Sink>⟧.state sink
             ≡ record { failures = 0; taken = append_known (W.contents writer) []; delivered = W.contents writer }) }
     {
-        let buffer = Vec::with_capacity(alloc, CAPACITY)?;
         Ok(BufferedSink {
             writer,
-            buffer,
+            buffer: Vec::with_capacity(alloc, CAPACITY)?,
             handed: 0,
             failures: 0,
         })
@@ -169,9 +151,7 @@ impl<W: Write + Drop> BufferedSink<W> {
         ensures writer { self.new.writer ≡ self.old.writer }
         ensures failures { self.new.failures ≡ 0 }
     {
-        let Ok(()) = self.buffer.extend_from_slice(bytes) else {
-            unreachable!()
-        };
+        self.buffer.extend_from_slice(bytes).unwrap();
     }
 
     /// Writes all that is held back.
@@ -195,8 +175,7 @@ impl<W: Write + Drop> BufferedSink<W> {
         Ok(())
     }
 
-    /// Takes bytes for which there is no room. First it writes all that is held back.
-    /// Then it holds the bytes back, or writes them straight if they are too many to hold.
+    /// Takes bytes for which there is no room. It writes all that is held back, then holds them back, or writes them if they are too many.
     #[cold]
     fn put_without_room(&mut self, bytes: &[u8]) -> Result<usize, SinkFault>
         requires some { 0 < length bytes.now }
@@ -288,11 +267,7 @@ impl<const N: usize> ArraySink<N> {
 }
 
 impl<const N: usize> Sink for ArraySink<N> {
-    ghost state = { λ s. record {
-      failures = s.failures;
-      taken = Some (take s.taken s.bytes);
-      delivered = Some (take s.taken s.bytes);
-    } };
+    ghost state = { λ s. record { failures = s.failures; taken = Some (take s.taken s.bytes); delivered = Some (take s.taken s.bytes) } };
 
     ghost delivers_front = { λ s. ([], Appends-nil (Some (take s.taken s.bytes))) };
 

@@ -13,9 +13,7 @@ use thiserror::Error;
 #[error("the source failed")]
 pub struct SourceFault;
 
-/// Gives bytes in order, up to an end.
-///
-/// A failure is final: a source that has failed once fails again.
+/// Gives bytes in order, up to an end. A failure is final: a source that has failed once fails again.
 pub trait Source {
     /// How often it has failed, the bytes that it has given, and those still to come.
     ghost state: { Self → SourceState };
@@ -24,10 +22,8 @@ pub trait Source {
     /// every source is proved of those that count.
     ghost end_answers: { Self → ℕ } = { λ _. 0 };
 
-    /// Writes the next bytes to the front of `buffer`, which must not be empty.
-    /// Returns the number of these bytes. It is 0 at the end of the source, and only there.
-    ///
-    /// If the source fails, it gives nothing, and its count of failures rises by one.
+    /// Writes the next bytes to the front of `buffer`, which must not be empty. Returns the number of these bytes. It is 0 at the end of the
+    /// source, and only there. If the source fails, it gives nothing, and its count of failures rises by one.
     fn get(&mut self, buffer: &mut [u8]) -> Result<usize, SourceFault>
         requires room { 0 < length buffer.old }
         requires countable { (state self.old).failures < u64.MAX }
@@ -69,11 +65,7 @@ impl<'a> SliceSource<'a> {
 }
 
 impl<'a> Source for SliceSource<'a> {
-    ghost state = { λ s. record {
-      failures = 0;
-      given = Some (take s.given s.bytes.now);
-      to_come = Some (drop s.given s.bytes.now);
-    } };
+    ghost state = { λ s. record { failures = 0; given = Some (take s.given s.bytes.now); to_come = Some (drop s.given s.bytes.now) } };
 
     fn get(&mut self, buffer: &mut [u8]) -> Result<usize, SourceFault> {
         let count = buffer.len().min(self.bytes.len() - self.given);
@@ -96,9 +88,8 @@ impl<'a> Source for SliceSource<'a> {
     }
 }
 
-/// A source over any reader. If the reader reports the bytes still to come, so does the source.
-///
-/// An interrupted read counts as failed, too. After a failure the reader isn't called again.
+/// A source over any reader. If the reader reports the bytes still to come, so does the source. An interrupted read counts as failed, too.
+/// After a failure the reader isn't called again.
 #[derive(Debug, Drop)]
 pub struct ReadSource<R: Read + Drop> {
     reader: R,

@@ -2,12 +2,12 @@
 pub use Rattle.std.proofs.Common.{All, Bool, IsTrue, List, MatchOption, None, Option, Some, [], ap, append-nil, append_assoc, arith, cond, drop, drop-drop, eq-eqb, eqb, eqb-true, false, flat_map, get_or, get_or-append-add, get_or-drop, inl, inr, le-leb, le-ltb, length, length-append, length-drop, lt-ltb, map, nat_eq, ne_eqb, not, option_map, refl, rules, slice_get, slice_range, subst, suc, sym, take, true, zero, ℕ, ◌%◌, ◌++◌, ◌+◌, ◌-◌, ◌/◌, ◌<◌, ◌^◌, ◌∙◌, ◌∷◌, ◌≡◌, ◌≢◌, ◌≤◌, ◌⊎◌}
 pub use Rattle.std.proofs.lemmas.Bool.{and_from, cases_lt, false≢true, or_left}
 pub use Rattle.std.proofs.lemmas.Grind.{common_steps}
-pub use Rattle.std.proofs.lemmas.List.{drop-append-le, drop_all, drop_more, get_or-append_right, get_or_default, get_or_past, length-map, map-append, take_rest}
+pub use Rattle.std.proofs.lemmas.List.{drop-append-le, drop_all, drop_more, get_or-append_right, get_or_default, get_or_past, length-map, map-append, take_rest, take_all}
 pub use Rattle.std.proofs.lemmas.List.Elements.{All-append, All-cons, All-more, All-nil, All-push}
 pub use Rattle.std.proofs.lemmas.Option.{get_or_from_slice_get, same_Some, slice_get-get_or, slice_get-map, slice_get_cases, slice_get_read, slice_get_within}
 pub use Rattle.std.specs.List.{range_with_len}
-pub use Rattle.sgf_properties.proofs.FrontSpelled.{properties-in}
-pub use Rattle.sgf_properties.proofs.Iterating.{byte-at}
+pub use Rattle.sgf_properties.proofs.FrontSpelled.{properties-in, ends-values, white-byte, white-join, white-none, white-past, white-same}
+pub use Rattle.sgf_properties.proofs.Iterating.{byte-at, count-properties-held, held-past, no-property, run-drop, white-between}
 pub use Rattle.sgf_properties.proofs.KeptLengths.{kept-drop}
 pub use Rattle.sgf_properties.proofs.PlacedBytes.{above}
 pub use Rattle.sgf_properties.proofs.Spans.{empty-span}
@@ -33,3 +33,8 @@ pub use Rattle.sgf_outline.specs.Written.{node_text, property_text}
 pub use Rattle.sgf_outline.specs.inner.Lead.{AreOtherProperties, AreOthers, IsEmptyNode, IsLedNode, IsLoneFront, IsNodeEnd, IsOtherProperty}
 pub use Rattle.sgf_outline.specs.inner.NodeText.{IsNodeIn, node_in}
 pub use Rattle.sgf_outline.specs.inner.Traversing.{IsRest, IsTraversal, nodes_between}
+pub use Rattle.sgf_properties.proofs.ValueEnds.{ordinary-other, other-ordinary, span-join}
+pub use Rattle.sgf_properties.proofs.Ends.{IsEnd, all, end-AreProperties, end-WhiteSpace, end-drop, tail}
+pub use Rattle.sgf_properties.proofs.FirstProperty.{ends-at, follows-at, head-same, left-after, properties-more, upper-first}
+pub use Rattle.sgf_properties.proofs.Classes.{between-not_upper, between-not_white_space, white-not_bracket, white-not_upper}
+pub use Rattle.sgf_properties.proofs.Taking.{taken-all, taken-at}

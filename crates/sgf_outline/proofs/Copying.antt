@@ -1,6 +1,5 @@
 -- What the sgf form copies of a text, as a reader tells it.
-use Rattle.sgf_outline.proofs.Common.{◌≡◌, ℕ, ◌≤◌, List, [], ◌++◌, length, slice_range, append_assoc, append-nil, rules, Segment, Stack, Coming, IsCopied, Copies}
-use Rattle.sgf_properties.proofs.ValueEnds.{span-join}
+use Rattle.sgf_outline.proofs.Common.{◌≡◌, ℕ, ◌≤◌, List, [], ◌++◌, length, slice_range, append_assoc, append-nil, rules, Segment, Stack, Coming, IsCopied, Copies, span-join}
 
 -- a visitor that keeps the same in other words
 pub copied-as : (kept keeps : List ℕ → Type 0) (t : List ℕ) (first : ℕ) (present : Segment) (written : List ℕ) → ((told : List ℕ) → kept told → keeps told) → IsCopied kept t first present written

@@ -1,6 +1,5 @@
 -- What is left after a node, or after games, is an end of what was left before.
-use Rattle.sgf_outline.proofs.Common.{ℕ, List, IsNode, node, AreNodes, no_node, nodes, AreGames, no_game, games, ByteOrderMark, no_byte_order_mark, byte_order_mark, Node, Games}
-use Rattle.sgf_properties.proofs.Ends.{IsEnd, tail, end-WhiteSpace, end-AreProperties}
+use Rattle.sgf_outline.proofs.Common.{ℕ, List, IsNode, node, AreNodes, no_node, nodes, AreGames, no_game, games, ByteOrderMark, no_byte_order_mark, byte_order_mark, Node, Games, IsEnd, tail, end-WhiteSpace, end-AreProperties}
 
 module _ {t : List ℕ} where
   pub end-IsNode : {whole : ℕ} {n : Node} {s r : List ℕ} → IsNode whole n s r → IsEnd t s → IsEnd t r

@@ -1,9 +1,8 @@
 -- A move and other properties after it.
-use Rattle.sgf_outline.proofs.Common.{rules, ◌≡◌, ◌≢◌, ℕ, ◌+◌, ◌<◌, ◌≤◌, IsTrue, All, List, [], ◌∷◌, ◌++◌, length, get_or, drop, slice_range, sym, subst, arith, common_steps, All-nil, All-push, properties_in, IsValueEnd, IsValue, games_in, EndsNode, is_upper, no_white_space, no_letter, upper, prop_value, no_value, IsProperty, property, AreProperties, no_property, properties, Property, IsOtherProperty, AreOtherProperties, AreOthers, IsLedNode, IsEmptyNode, IsNodeEnd, node_in, nodes_between, IsTraversal, byte-at, properties-in}
+use Rattle.sgf_outline.proofs.Common.{rules, ◌≡◌, ◌≢◌, ℕ, ◌+◌, ◌<◌, ◌≤◌, IsTrue, All, List, [], ◌∷◌, ◌++◌, length, get_or, drop, slice_range, sym, subst, arith, common_steps, All-nil, All-push, properties_in, IsValueEnd, IsValue, games_in, EndsNode, is_upper, no_white_space, no_letter, upper, prop_value, no_value, IsProperty, property, AreProperties, no_property, properties, Property, IsOtherProperty, AreOtherProperties, AreOthers, IsLedNode, IsEmptyNode, IsNodeEnd, node_in, nodes_between, IsTraversal, byte-at, properties-in, properties-more}
 use Rattle.sgf_outline.specs.Lead.{IsOtherName, IsLedBy}
 use Rattle.sgf_outline.proofs.LoneNodes.{lone, spelled, ends-node, nothing-skipped}
 use Rattle.sgf_outline.proofs.Traversing.{past-node}
-use Rattle.sgf_properties.proofs.FirstProperty.{properties-more}
 
 -- a name of two capitals, and a value
 module _ (t : List ℕ) (start close : ℕ) (bracket : get_or t (start + 2) 0 ≡ 91) (value : IsValueEnd t (start + 3) close) where

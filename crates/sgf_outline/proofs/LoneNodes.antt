@@ -1,8 +1,5 @@
 -- A node that begins with a property of one letter and one value of two bytes.
-use Rattle.sgf_outline.proofs.Common.{◌≡◌, ◌≢◌, ℕ, ◌<◌, false, List, ◌∷◌, length, get_or, take, drop, slice_range, sym, ap, subst, arith, common_steps, properties_in, NoValueFollows, NoPropertyFollows, ArePropertiesIn, IsSpan, no_unit, ordinary, IsMove, is_white_space, is_upper, no_white_space, no_letter, prop_value, no_value, IsProperty, property, Property, lone_property, IsNodeEnd, IsLoneFront, byte-at, empty-span}
-use Rattle.sgf_properties.proofs.Classes.{between-not_upper, between-not_white_space, white-not_bracket, white-not_upper}
-use Rattle.sgf_properties.proofs.ValueEnds.{ordinary-other}
-use Rattle.sgf_properties.proofs.FirstProperty.{follows-at, ends-at, left-after}
+use Rattle.sgf_outline.proofs.Common.{◌≡◌, ◌≢◌, ℕ, ◌<◌, false, List, ◌∷◌, length, get_or, take, drop, slice_range, sym, ap, subst, arith, common_steps, properties_in, NoValueFollows, NoPropertyFollows, ArePropertiesIn, IsSpan, no_unit, ordinary, IsMove, is_white_space, is_upper, no_white_space, no_letter, prop_value, no_value, IsProperty, property, Property, lone_property, IsNodeEnd, IsLoneFront, byte-at, empty-span, between-not_upper, between-not_white_space, white-not_bracket, white-not_upper, ordinary-other, follows-at, ends-at, left-after}
 
 -- nothing is skipped before a byte above the space
 pub nothing-skipped : (t : List ℕ) (at : ℕ) → at < length t → 32 < get_or t at 0 → IsSpan is_white_space t at at

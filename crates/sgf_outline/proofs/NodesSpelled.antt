@@ -1,9 +1,6 @@
 -- Each node's properties are spelled in the text from its `;` on.
-use Rattle.sgf_outline.proofs.Common.{◌≡◌, ◌≢◌, ℕ, ◌+◌, ◌-◌, false, List, ◌∷◌, length, drop, All, Option, Some, None, refl, arith, rules, common_steps, All-nil, All-cons, All-append, NoPropertyFollows, OrderedNode, further_nodes, nodes_from, ordered_nodes, is_white_space, is_upper, WhiteSpace, AreProperties, IsNode, node, AreNodes, no_node, nodes, AreGames, no_game, games, Spells, spells, Node, Games, node_count}
-use Rattle.sgf_properties.proofs.Ends.{IsEnd, all, tail, end-drop, end-WhiteSpace}
+use Rattle.sgf_outline.proofs.Common.{◌≡◌, ◌≢◌, ℕ, ◌+◌, ◌-◌, false, List, ◌∷◌, length, drop, All, Option, Some, None, refl, arith, rules, common_steps, All-nil, All-cons, All-append, NoPropertyFollows, OrderedNode, further_nodes, nodes_from, ordered_nodes, is_white_space, is_upper, WhiteSpace, AreProperties, IsNode, node, AreNodes, no_node, nodes, AreGames, no_game, games, Spells, spells, Node, Games, node_count, IsEnd, all, tail, end-drop, end-WhiteSpace, white-not_upper, white-not_bracket, white-byte}
 use Rattle.sgf_outline.proofs.Ends.{end-IsNode, end-AreNodes, end-AreGames, end-ByteOrderMark}
-use Rattle.sgf_properties.proofs.Classes.{white-not_upper, white-not_bracket}
-use Rattle.sgf_properties.proofs.FrontSpelled.{white-byte}
 
 -- a byte that is neither ends a node
 module _ (b : ℕ) (not_white_space : is_white_space b ≡ false) (not_bracket : b ≢ 91) (not_upper : is_upper b ≡ false) where

@@ -86,10 +86,7 @@ parent-within at parent (game first more below after) j i h =
       | inr w ↦ inr (within-right at (last + 1) own under j k i (omega arith) e w)
     ]))
     (λ k e in_next.
-    elim (parent-within start parent after k i in_next) [
-      | inl p ↦ inl p
-      | inr w ↦ inr (within-right at start (own ++ under) next j k i (omega arith) e w)
-    ])
+    grind (arith, common_steps, parent-within start parent after k i in_next, within-right at start (own ++ under) next j k i))
 
 pub parent_at-within : (c : Games) (i : ℕ) (p : Option ℕ) → parent_at c i ≡ Some p → i < length (ordered_nodes c)
 parent_at-within c i p h = parent_in-within (ordered_nodes c) i p h

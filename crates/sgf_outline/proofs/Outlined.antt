@@ -17,10 +17,8 @@ node-told text g spelled_by i p h =
     elim (slice_get_cases (ordered_nodes g) i).1 [
       | inl there ↦
           let spelled = subst (λ (q : OrderedNode). IsNodeSpelled text q.node) there.3 (ordered-spelled text g spelled_by i there.0 there.1) in
-          let told = spelled-in text there.0.node spelled in
-          let at_place : there.0.node.place ≡ p = cc in
           let some : length (drop there.0.node.place text) ≡ suc (length (drop (there.0.node.place + 1) text)) = ap length spelled.begins in
-          (cc, subst (λ k. IsNodeIn (drop k text)) at_place told.1, omega (arith, length-drop there.0.node.place text, at_place))
+          grind (arith, common_steps, spelled-in text there.0.node spelled, length-drop there.0.node.place text)
       | inr past ↦ absurd (cc)
     ]
 
@@ -88,11 +86,11 @@ module _ (g : Games) where
         ap (option_map (λ (r : OrderedNode). r.node)) (own-at j lt) ∙ sym (slice_get-map (λ (r : OrderedNode). r.node) (own_ordered s stands.own) j)
         ∙ ap (λ ns. slice_get (s.first ∷ ns) j) (further-are s.number s.more)
 
-    place-listed : (j : ℕ) → j < 1 + length s.more → place_at g (s.number + j) ≡ Some (get_or (nodes_of s) j s.first).place
+    pub place-listed : (j : ℕ) → j < 1 + length s.more → place_at g (s.number + j) ≡ Some (get_or (nodes_of s) j s.first).place
     place-listed j lt =
         place-of (slice_get (ordered_nodes g) (s.number + j)) (get_or (nodes_of s) j s.first) (node-listed j lt ∙ slice_get-get_or (nodes_of s) j s.first (omega (arith, lt)))
 
-    nodes-listed : nodes_at g (sequence_numbers g i) ≡ nodes_of s
+    pub nodes-listed : nodes_at g (sequence_numbers g i) ≡ nodes_of s
     nodes-listed =
         let count : sequence_end g i - sequence_start g i ≡ length (nodes_of s) = omega (arith, start-listed, end-listed) in
         ap (λ k. nodes_at g (range_with_len (sequence_start g i) k)) count ∙ ap (λ k. nodes_at g (range_with_len k (length (nodes_of s)))) start-listed
@@ -185,12 +183,7 @@ module _ (g : Games) where
         let some : sequence_start g i < sequence_end g i = sequence-some i here in
         let e : sequence_start g (i + 1) ≡ sequence_end g i - 1 + 1 = omega (arith, some, next-start i lt) in
         let parent : parent_at g (sequence_start g (i + 1)) ≡ Some (Some (sequence_end g i - 1)) = ap (parent_at g) e ∙ next-child g other (sequence_end g i - 1) h in
-        by outer is other_one parent
-      where
-        by : (outer : Option ℕ) → MatchOption outer (parent_at g (sequence_start g (i + 1)) ≡ Some None) (λ o. (o < i + 1) × (parent_at g (sequence_start g (i + 1)) ≡ Some (Some (sequence_end g o - 1))))
-            → outer ≢ Some i → parent_at g (sequence_start g (i + 1)) ≡ Some (Some (sequence_end g i - 1)) → ⊥
-        by None none other_one parent = cc
-        by (Some o) goes other_one parent = grind (arith, common_steps, same-end)
+        grind (arith, common_steps, same-end)
 
     pub if-leaf : IsLeaf g (sequence_end g i - 1) → outer ≢ Some i
     if-leaf leaf same = grind (arith, common_steps)
@@ -215,29 +208,26 @@ module _ (text : List ℕ) (kept : Sequences) (outlined : IsOutlined text kept) 
 
   pub entry-in : (i : ℕ) (entry : Sequence) → i < length (sequence_starts g) → entry ≡ get_or kept.table.items i entry → IsEntryOf text kept.segments.items g i entry
   entry-in i entry lt here =
-      let one = one-listed g i lt in of one.0 one.1
-    where
-      of : (s : Listed) → slice_get (sequences_of g) i ≡ Some s → IsEntryOf text kept.segments.items g i entry
-      of s at =
-          let k : IsKept text kept.segments.items entry s = kept-by.each i entry s (slice_get_read kept.table.items _ i entry refl (omega (arith, lt, table_length)) here) at in
-          let start : sequence_start g i ≡ s.number = start-listed g i s at in
-          let end : sequence_end g i ≡ last_number s + 1 = end-listed g i s at in
-          let e : s.number + 0 ≡ s.number = omega arith in
-          let last : last_number s ≡ sequence_end g i - 1 = omega (arith, end) in
-          let nodes : nodes_at g (sequence_numbers g i) ≡ nodes_of s = nodes-listed g i s at in
-          record {
-            number_is = k.number_is ∙ sym start;
-            first_is = ap (place_at g) (start ∙ sym e) ∙ place-listed g i s at 0 (omega arith) ∙ ap Some (sym k.first_is);
-            last_is = ap (place_at g) (sym last) ∙ place-listed g i s at (length s.more) (omega arith) ∙ ap Some (sym k.last_is);
-            rises = k.rises;
-            in_text = k.within;
-            written = λ known. k.written known ∙ ap (flat_map node_text) (sym nodes);
-            segmented = λ other. subst (HasSegments text kept.segments.items entry.end) (sym nodes) (k.segmented other);
-            root_is = λ e.
-                let none : s.outer ≡ None = sym k.outer_is ∙ e in
-                let root = root-listed g i s at none in (root.0, root.1 ∙ sym (k.ordinal_is none));
-            outer_is = λ o e. outer-listed g i o s at (sym k.outer_is ∙ e);
-          }
+      let (s, at) = one-listed g i lt in
+      let k : IsKept text kept.segments.items entry s = kept-by.each i entry s (slice_get_read kept.table.items _ i entry refl (omega (arith, lt, table_length)) here) at in
+      let start : sequence_start g i ≡ s.number = start-listed g i s at in
+      let end : sequence_end g i ≡ last_number s + 1 = end-listed g i s at in
+      let e : s.number + 0 ≡ s.number = omega arith in
+      let last : last_number s ≡ sequence_end g i - 1 = omega (arith, end) in
+      let nodes : nodes_at g (sequence_numbers g i) ≡ nodes_of s = nodes-listed g i s at in
+      record {
+        number_is = k.number_is ∙ sym start;
+        first_is = ap (place_at g) (start ∙ sym e) ∙ place-listed g i s at 0 (omega arith) ∙ ap Some (sym k.first_is);
+        last_is = ap (place_at g) (sym last) ∙ place-listed g i s at (length s.more) (omega arith) ∙ ap Some (sym k.last_is);
+        rises = k.rises;
+        in_text = k.within;
+        written = λ known. k.written known ∙ ap (flat_map node_text) (sym nodes);
+        segmented = λ other. subst (HasSegments text kept.segments.items entry.end) (sym nodes) (k.segmented other);
+        root_is = λ e.
+            let none : s.outer ≡ None = sym k.outer_is ∙ e in
+            let root = root-listed g i s at none in (root.0, root.1 ∙ sym (k.ordinal_is none));
+        outer_is = λ o e. outer-listed g i o s at (sym k.outer_is ∙ e);
+      }
 
 -- an entry of a sequence that begins with a root has no other one
 pub outer-none : (text : List ℕ) (segments : List KeptSegment) (g : Games) (i : ℕ) (entry : Sequence) → IsEntryOf text segments g i entry → parent_at g (sequence_start g i) ≡ Some None → outer_by entry ≡ None

@@ -1,7 +1,6 @@
 -- The places of a collection that a text spells rise strictly in file order, and each is within the text.
-use Rattle.sgf_outline.proofs.Common.{◌≡◌, ℕ, ◌+◌, ◌-◌, ◌<◌, ◌≤◌, List, [], ◌∷◌, ◌++◌, length, Option, Some, None, map, slice_get, refl, ap, sym, ◌∙◌, arith, rules, map-append, slice_get-map, OrderedNode, further_nodes, nodes_from, ordered_nodes, place_at, PlacesRise, IsNode, node, AreNodes, no_node, nodes, AreGames, no_game, games, Spells, spells, Node, Games, no_games, game, node_count}
+use Rattle.sgf_outline.proofs.Common.{◌≡◌, ℕ, ◌+◌, ◌-◌, ◌<◌, ◌≤◌, List, [], ◌∷◌, ◌++◌, length, Option, Some, None, map, slice_get, refl, ap, sym, ◌∙◌, arith, rules, map-append, slice_get-map, OrderedNode, further_nodes, nodes_from, ordered_nodes, place_at, PlacesRise, IsNode, node, AreNodes, no_node, nodes, AreGames, no_game, games, Spells, spells, Node, Games, no_games, game, node_count, all, end-drop, end-WhiteSpace, end-AreProperties}
 use Rattle.sgf_outline.proofs.Rises.{Rises, rises-low, rises-append, rises-pair}
-use Rattle.sgf_properties.proofs.Ends.{all, end-drop, end-WhiteSpace, end-AreProperties}
 use Rattle.sgf_outline.proofs.Ends.{end-IsNode, end-AreNodes, end-AreGames, end-ByteOrderMark}
 
 abbrev node_place : Node → ℕ

@@ -1,9 +1,8 @@
 -- The bytes of a property of two capitals and one value, all compared at once.
-use Rattle.sgf_outline.proofs.Common.{◌≡◌, ◌≢◌, ℕ, zero, suc, ◌+◌, ◌-◌, ◌/◌, ◌%◌, ◌^◌, ◌<◌, ◌≤◌, Bool, false, IsTrue, List, [], ◌∷◌, length, get_or, inl, inr, refl, sym, subst, ◌∙◌, arith, le-leb, and_from, cases_lt, or_left, common_steps, get_or-append_right, is_letter, IsSpan, IsValueEnd, is_ordinary, IsShortProperty, is_upper, above}
+use Rattle.sgf_outline.proofs.Common.{◌≡◌, ◌≢◌, ℕ, zero, suc, ◌+◌, ◌-◌, ◌/◌, ◌%◌, ◌^◌, ◌<◌, ◌≤◌, Bool, false, IsTrue, List, [], ◌∷◌, length, get_or, inl, inr, refl, sym, subst, ◌∙◌, arith, le-leb, and_from, cases_lt, or_left, common_steps, get_or-append_right, is_letter, IsSpan, IsValueEnd, is_ordinary, IsShortProperty, is_upper, above, other-ordinary}
 use Rattle.std.proofs.lemmas.Simd.{get_or-replicate}
 use Rattle.std.specs.Int.Count.{count_trailing_zeros}
 use Rattle.sgf_properties.proofs.PlacedBytes
-use Rattle.sgf_properties.proofs.ValueEnds.{other-ordinary}
 use Rattle.sgf_properties.proofs.ValueUnits.{no-units, ordinary-units, units-ended}
 
 -- the first byte of each place that stops a property, and how many further ones do

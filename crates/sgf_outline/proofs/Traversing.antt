@@ -1,14 +1,10 @@
 -- Going over the nodes of a sequence on the text.
-use Rattle.sgf_outline.proofs.Common.{◌≡◌, ℕ, suc, ◌+◌, ◌-◌, ◌<◌, ◌≤◌, List, [], ◌∷◌, ◌++◌, length, get_or, slice_get, slice_range, drop, All, Option, Some, None, option_map, refl, sym, ap, subst, ◌∙◌, inl, inr, arith, get_or-drop, length-drop, rules, drop-drop, cases_lt, common_steps, drop_all, All-nil, All-cons, All-append, slice_get_cases, slice_get_within, get_or_from_slice_get, same_Some, properties_in, NoValueFollows, NoPropertyFollows, ArePropertiesIn, IsSpan, Sequence, Sequences, OrderedNode, further_nodes, ordered_nodes, node_at, nodes_at, sequence_starts, sequence_start, sequence_end, Listed, listed, sequences_of, games_in, IsOutlined, is_white_space, WhiteSpace, no_white_space, white_space, IsProperty, AreProperties, no_property, properties, IsNode, node, AreNodes, no_node, nodes, AreGames, no_game, games, Spells, spells, Property, lone_property, Node, Games, node_count, IsNodeEnd, IsLoneFront, node_in, nodes_between, IsRest, IsTraversal, range_with_len, empty-span}
-use Rattle.sgf_properties.proofs.Iterating.{byte-at, held-past, white-between}
+use Rattle.sgf_outline.proofs.Common.{◌≡◌, ℕ, suc, ◌+◌, ◌-◌, ◌<◌, ◌≤◌, List, [], ◌∷◌, ◌++◌, length, get_or, slice_get, slice_range, drop, All, Option, Some, None, option_map, refl, sym, ap, subst, ◌∙◌, inl, inr, arith, get_or-drop, length-drop, rules, drop-drop, cases_lt, common_steps, drop_all, All-nil, All-cons, All-append, slice_get_cases, slice_get_within, get_or_from_slice_get, same_Some, properties_in, NoValueFollows, NoPropertyFollows, ArePropertiesIn, IsSpan, Sequence, Sequences, OrderedNode, further_nodes, ordered_nodes, node_at, nodes_at, place_at, sequence_starts, sequence_start, sequence_end, Listed, listed, sequences_of, games_in, IsOutlined, is_white_space, WhiteSpace, no_white_space, white_space, IsProperty, AreProperties, no_property, properties, IsNode, node, AreNodes, no_node, nodes, AreGames, no_game, games, Spells, spells, Property, lone_property, Node, Games, node_count, IsNodeEnd, IsLoneFront, node_in, nodes_between, IsRest, IsTraversal, range_with_len, empty-span, byte-at, held-past, white-between, IsEnd, all, tail, end-drop, end-WhiteSpace, white-same, white-none, white-join, white-past, ends-values, properties-in, left-after, head-same, upper-first}
 use Rattle.sgf_outline.proofs.LoneNodes.{lone, ends-node, lone-ends, spelled as front-spelled}
-use Rattle.sgf_properties.proofs.Ends.{IsEnd, all, tail, end-drop, end-WhiteSpace}
 use Rattle.sgf_outline.proofs.Ends.{end-IsNode, end-AreNodes, end-AreGames, end-ByteOrderMark}
 use Rattle.sgf_outline.proofs.NodesSpelled.{ends-at, ends-nodes}
 use Rattle.sgf_outline.proofs.OrderedNodes.{length-ordered_nodes}
-use Rattle.sgf_properties.proofs.FrontSpelled.{white-same, white-none, white-join, white-past, ends-values, properties-in}
-use Rattle.sgf_outline.proofs.Outlined.{start-listed, end-listed, own-at, one-listed, sequence-within, entry-in}
-use Rattle.sgf_properties.proofs.FirstProperty.{left-after, head-same, upper-first}
+use Rattle.sgf_outline.proofs.Outlined.{start-listed, end-listed, place-listed, nodes-listed, one-listed, sequence-within, entry-in}
 
 -- properties end at one place
 properties-same : {us vs : List Property} {s q r : List ℕ} → AreProperties us s q → NoPropertyFollows q → AreProperties vs s r → NoPropertyFollows r → q ≡ r
@@ -185,13 +181,6 @@ module _ (t : List ℕ) where
   all-spelled : (g : Games) → Spells g t → All IsListedSpelled (sequences_of g)
   all-spelled g (spells m are end) = listed-spelled 0 0 None 1 are (end-ByteOrderMark m all)
 
--- the nodes of the numbers from k on
-further-between : (g : Games) (k last : ℕ) (ns : List Node) → ((j : ℕ) → j < length ns → slice_get (ordered_nodes g) (k + j) ≡ slice_get (further_nodes last ns) j) → nodes_at g (range_with_len k (length ns)) ≡ ns
-further-between g k last [] at = refl
-further-between g k last (n ∷ ns) at =
-    let e : k + 0 ≡ k = omega arith in
-    search (rules, (further-between g (k + 1) (last + 1) ns (λ j lt. let f : k + 1 + j ≡ k + suc j = omega arith in ap (slice_get (ordered_nodes g)) f ∙ at (suc j) (omega (arith, lt)))))
-
 -- all nodes of a sequence, from its entry in the table
 pub sequence-traversal : (text : List ℕ) (kept : Sequences) (outlined : IsOutlined text kept) (i : ℕ) (entry : Sequence) → i < length (sequence_starts (games_in text))
     → entry ≡ get_or kept.table.items i entry
@@ -201,15 +190,9 @@ sequence-traversal text kept outlined i entry lt here =
     let (s, is) = one-listed g i lt in
     let start = start-listed g i s is in
     let end = end-listed g i s is in
-    let own = own-at g i s is in
-    let from : sequence_start g i ≡ s.number + 0 = omega arith in
-    let count : sequence_end g i - (sequence_start g i + 1) ≡ length s.more = omega arith in
-    let first = ap (slice_get (ordered_nodes g)) from ∙ own 0 (omega arith) in
-    let nodes : nodes_between g (sequence_start g i) (sequence_end g i) ≡ s.first ∷ s.more =
-    nodes-first g (sequence_start g i) (sequence_end g i) s.first (omega arith) (ap (option_map (λ (r : OrderedNode). r.node)) first)
-    ∙ ap (λ ns. s.first ∷ ns) (ap (λ k. nodes_at g (range_with_len (sequence_start g i + 1) k)) count
-    ∙ further-between g (sequence_start g i + 1) s.number s.more (λ j less. let k : sequence_start g i + 1 + j ≡ s.number + suc j = omega arith in ap (slice_get (ordered_nodes g)) k ∙ own (suc j) (omega arith))) in
-    let place : Some s.first.place ≡ Some entry.first = sym (ap (option_map (λ (r : OrderedNode). r.node.place)) first) ∙ (entry-in text kept outlined g refl i entry lt here).first_is in
+    let from : s.number + 0 ≡ sequence_start g i = omega arith in
+    let nodes : nodes_between g (sequence_start g i) (sequence_end g i) ≡ s.first ∷ s.more = nodes-listed g i s is in
+    let place : Some s.first.place ≡ Some entry.first = sym (place-listed g i s is 0 (omega arith)) ∙ ap (place_at g) from ∙ (entry-in text kept outlined g refl i entry lt here).first_is in
     let listed = subst (IsListedSpelled text) (get_or_from_slice_get (sequences_of g) i s s is) (all-spelled text g outlined.spelled i s (slice_get_within (sequences_of g) i s is)) in
     let begins : drop entry.first text ≡ 59 ∷ listed.after = ap (λ k. drop k text) (sym (same_Some s.first.place entry.first place)) ∙ listed.begins in
     let spelled = subst (λ x. AreNodes (length text) (s.first ∷ s.more) x listed.past) (sym begins) listed.spelled in

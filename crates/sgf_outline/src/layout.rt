@@ -46,10 +46,7 @@ impl Segment {
             → Copies (K.keeps text visitor.old) (K.keeps text visitor.new) text self next (slice_range text from to)) }
     {
         if self.end == from {
-            return Ok(Segment {
-                start: self.start,
-                end: to,
-            });
+            return Ok(Segment { end: to, ..self });
         }
         visitor.segment(self)?;
         Ok(Segment {

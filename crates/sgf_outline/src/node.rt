@@ -13,9 +13,8 @@ use crate::quick::lead::is_lone_front;
 use sgf_properties::{LongValue, MemoryFault, PropRef, Properties, push_property};
 use std::marker::Model;
 
-/// A node, seen as its place and its properties. Only `push_to` takes memory.
-///
-/// Its properties are read from the text. So the time of a call depends on how much of the node's text it goes over.
+/// A node, seen as its place and its properties. Only `push_to` takes memory. The properties are read from the text, so the time of a call
+/// depends on how much of the node's text it goes over.
 #[derive(Drop)]
 pub struct NodeRef<'c, 'a> {
     pub(crate) place: u32,
@@ -47,15 +46,12 @@ impl<'c, 'a> NodeRef<'c, 'a> {
     pub fn iter(&self) -> Properties<'c, 'a>
         ensures { result ≡ self.now.properties }
     {
-        let text = self.text;
-        Properties::new(text, 1, self.long)
+        Properties::new(self.text, 1, self.long)
     }
 
-    /// If the first property is recognized at a glance, as in `;B[pd]`, this returns its letter and its raw
-    /// value, and the properties after it. Otherwise it returns None and all properties. So the two parts
-    /// of the result together are always all properties.
-    ///
-    /// The first property is recognized only if its name is one capital and its only value is two bytes without an escape.
+    /// If the first property is recognized at a glance, as in `;B[pd]`, this returns its letter and its raw value, and the properties after
+    /// it. Otherwise it returns None and all properties. So the two parts of the result together are always all properties. The first
+    /// property is recognized only if its name is one capital and its only value is two bytes without an escape.
     pub fn front(&self) -> (Option<(u8, &'a [u8])>, Properties<'c, 'a>)
         ensures { self.now.properties ≡ option_to_list (option_map (λ lone. lone_property lone.0 lone.1.now) result.0) ++ result.1 }
     {
@@ -72,12 +68,10 @@ impl<'c, 'a> NodeRef<'c, 'a> {
     pub fn props(&self) -> usize
         ensures { result ≡ length self.now.properties }
     {
-        let left = Properties::new(self.text, 1, self.long);
-        left.count()
+        self.iter().count()
     }
 
-    /// Property `i`, from 0 in file order. `i` must be less than `props()`. This goes
-    /// over the properties before it; to get all of them, use `iter`.
+    /// Property `i`, from 0 in file order. `i` must be less than `props()`. This goes over those before it; to get all of them, use `iter`.
     pub fn prop(&self, i: usize) -> PropRef<'a>
         requires { i < length self.now.properties }
         ensures { slice_get self.now.properties i ≡ Some result }
@@ -97,10 +91,8 @@ impl<'c, 'a> NodeRef<'c, 'a> {
         None
     }
 
-    /// Appends the node as the sgf form writes it. This is a `;`, and for each property its name in capitals and its raw values
-    /// between brackets, as they are in the text. Nothing stands between these parts.
-    ///
-    /// `MemoryFault` comes only if memory was refused; then `out` is unchanged.
+    /// Appends the node as the sgf form writes it: a `;`, and for each property its name in capitals and its raw values between brackets, as
+    /// they are in the text. Nothing stands between these. `MemoryFault` comes only if memory was refused; then `out` is unchanged.
     pub fn push_to(&self, out: &mut Vec<u8>) -> Result<(), MemoryFault>
         ensures appended { OnOk result (out.new.items ≡ out.old.items ++ node_text self.now) }
         ensures unchanged { OnErr result (out.new.items ≡ out.old.items) }

@@ -80,8 +80,7 @@ impl<'a> Outline<'a> {
         self.sequences.table.len()
     }
 
-    /// The number of the first node of sequence `i`, from 0 in file order. `i` must be less than `sequences()`, here and in the
-    /// calls below.
+    /// The number of the first node of sequence `i`, from 0 in file order. `i` must be less than `sequences()`, here and further down.
     pub fn sequence_start(&self, i: usize) -> usize
         requires { i < length (sequence_starts self.now) }
         ensures { result ≡ sequence_start self.now i }
@@ -103,17 +102,14 @@ impl<'a> Outline<'a> {
         }
     }
 
-    /// The number of the sequence that sequence `i` goes on from, which ends with the parent of its first node. None if that node is the
-    /// root of a game.
+    /// The number of the sequence that sequence `i` goes on from, which ends with the parent of its first node. None if that node is a root.
     pub fn sequence_outer(&self, i: usize) -> Option<usize>
         requires { i < length (sequence_starts self.now) }
         ensures { MatchOption result (parent_at self.now (sequence_start self.now i) ≡ Some None)
             (λ outer. (outer < i) × (parent_at self.now (sequence_start self.now i) ≡ Some (Some (sequence_end self.now outer - 1)))) }
     {
-        match self.sequences.table[i].outer() {
-            Some(outer) => Some(outer as usize),
-            None => None,
-        }
+        let outer = self.sequences.table[i].outer()?;
+        Some(outer as usize)
     }
 
     /// Whether the last node of sequence `i` is a leaf.
@@ -211,8 +207,7 @@ impl<'a> Outline<'a> {
         }
     }
 
-    /// Appends the nodes of sequence `i` to `out` as the sgf form writes them. They are copied from the text segment by segment.
-    /// If memory is refused, `out` is unchanged.
+    /// Appends the nodes of sequence `i` as the sgf form writes them, copied segment by segment. If memory is refused, `out` is unchanged.
     pub fn push_sequence(&self, i: usize, out: &mut Vec<u8>) -> Result<(), MemoryFault>
         requires { i < length (sequence_starts self.now) }
         ensures appended { OnOk result (out.new.items
@@ -223,8 +218,7 @@ impl<'a> Outline<'a> {
         let sequence = &self.sequences.table[i];
         if sequence.is_written() {
             let written = &self.text[sequence.first as usize..sequence.end as usize];
-            out.extend_from_slice(written)?;
-            return Ok(());
+            return Ok(out.extend_from_slice(written)?);
         }
         let mut at = sequence.end as usize;
         'segments: loop {

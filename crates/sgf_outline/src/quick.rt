@@ -2,8 +2,7 @@
 //! The rest of the crate is complete without them, so a newcomer may skip this module. Shortcuts over names and values are in `quick` of
 //! `sgf_properties`, those that read whole nodes in `quick` of `sgf_tree`.
 //!
-//! A shortcut stands in for a plain function, and ensures no more than that one. If it returns None or false, nothing is known: the caller
-//! then calls the plain function.
+//! A shortcut stands in for a plain function, and ensures no more. None or false says nothing: the caller then calls the plain function.
 //!
 //! | Shortcut | Stands in for |
 //! |---|---|

@@ -12,8 +12,7 @@ use crate::visitor::Visitor;
 use sgf_properties::MemoryFault;
 use std::alloc::Global;
 
-/// The most sequences that there is room for at once. Most texts have one game and few variations, so the table seldom
-/// grows.
+/// The most sequences that there is room for at once. Most texts have one game and few variations, so the table seldom grows.
 const ROOM_FOR_SEQUENCES: usize = 16;
 
 /// The bytes of a short game or variation, such as `(;B[pd])`. Few have fewer.
@@ -36,8 +35,7 @@ pub(crate) struct Sequence {
     pub end: u32,
     /// The number of its first node.
     pub number: u32,
-    /// The number of the sequence that it goes on from, or of the game that it begins, plus its flags. As fields, the flags would take 4
-    /// bytes more.
+    /// The number of the sequence that it goes on from, or of the game that it begins, plus its flags. As fields, these would take 4 bytes.
     pub outer_and_flags: u32,
 }
 

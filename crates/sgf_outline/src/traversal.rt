@@ -96,11 +96,10 @@ impl<'c, 'a> SequenceNodes<'c, 'a> {
         if let Some(end) = led_end(text, names) {
             self.number += 1;
             self.at = place + end;
-            let value = &text[3..5];
             return Some(NextNode::Led {
                 place,
                 letter: text[1],
-                value,
+                value: &text[3..5],
             });
         }
         if is_empty_node(text) {
@@ -111,8 +110,7 @@ impl<'c, 'a> SequenceNodes<'c, 'a> {
         Some(self.next_unread())
     }
 
-    /// The same for a node that isn't recognized. There must be a node. This is the plain way. It also looks whether the node begins
-    /// with a lone property.
+    /// The same for a node that isn't recognized. There must be a node. This is the plain way. It also looks for a lone property in front.
     fn next_unread(&mut self) -> NextNode<'a>
         requires { 0 < length self.old.nodes }
         ensures { (node : Node) × (self.old.nodes ≡ node ∷ self.new.nodes)

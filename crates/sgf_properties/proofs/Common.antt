@@ -20,5 +20,6 @@ pub use Rattle.sgf_properties.specs.RawValue.{escaped, IsValue, no_unit, ordinar
 pub use Rattle.sgf_properties.specs.Spelling.{AreProperties, ArePropValues, is_lower, is_upper, is_white_space, IsProperty, IsPropValue, Letters, lower, no_letter, no_property, no_value, no_white_space, prop_value, properties, property, upper, value, white_space, WhiteSpace}
 pub use Rattle.sgf_properties.specs.Text.{after_backslash, escaped_break, escaped_byte, escaped_pair, is_break, is_pair, IsDecoded, last_backslash, line_break, MakesNoPair, nothing, ordinary_byte, pair, text_of, unescaped}
 pub use Rattle.sgf_properties.specs.inner.Iterating.{IsNoPropValue, IsPastValues, values_left}
-pub use Rattle.sgf_properties.specs.inner.Literals.{AreLiterals, is_literal, lowest_bit}
+pub use Rattle.sgf_properties.specs.inner.Literals.{AreLiterals, is_literal}
 pub use Rattle.sgf_properties.specs.inner.Searches.{AreBackslashesBefore, AreEscapes, HasNoBracket, IsNextBracket, SpellsNoValue}
+pub use Rattle.std.proofs.Math.Seq.{drop-length, get_or-append_seam}

@@ -38,14 +38,9 @@ pub head-same : {p q : Property} {qs : List Property} {s r m : List ℕ} → IsP
     → (q ≡ p) × AreProperties qs r m
 head-same {qs = qs} {m = m} (property {b} {name} {v} {t = t} {u} {r = r} {vs = vs} w h l first more) ends (properties (property {b = c} {name = other} {v = x} {t = k} {u = z} {r = j} {vs = xs} w2 h2 l2 first2 more2) are) done =
     let same = white-same w w2 (upper-not_white_space b h) (upper-not_white_space c h2) in
-    let e : b ∷ t ≡ c ∷ k = ap (λ a. a ∷ t) same.0 ∙ ap (λ a. c ∷ a) same.1 in
     let i = property-is {b = b} h l first more ends in
     let o = property-is {b = c} h2 l2 first2 more2 (ends-values are done) in
-    let at : u ≡ z = sym i.0 ∙ ap (left_after is_letter) e ∙ o.0 in
-    let names : c ∷ other ≡ b ∷ name = sym o.1 ∙ ap (λ a. name_in (front is_letter a)) (sym e) ∙ i.1 in
-    let all : x ∷ xs ≡ v ∷ vs = sym o.2 ∙ ap values_in (sym at) ∙ i.2 in
-    let left : j ≡ r = sym o.3 ∙ ap (λ a. after_values_up_to (length a) z) (sym same.1) ∙ ap (after_values_up_to (length t)) (sym at) ∙ i.3 in
-    search (rules, white-same, upper-not_white_space, property-is, ends-values)
+    grind (arith, common_steps, same, i, o)
 
 pub properties-more : {ps : List Property} {p : Property} {s m r : List ℕ} → AreProperties ps s m → IsProperty p m r → AreProperties (ps ++ p ∷ []) s r
 properties-more no_property is = properties is no_property

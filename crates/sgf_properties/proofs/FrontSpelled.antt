@@ -4,34 +4,30 @@ use Rattle.sgf_properties.proofs.Classes.{upper-not_white_space, upper-not_brack
 use Rattle.sgf_properties.proofs.Ends.{all, tail, end-drop, end-WhiteSpace, end-Letters, end-IsValue, end-IsPropValue, end-ArePropValues}
 use Rattle.sgf_properties.proofs.ValueSpelled.{value-same}
 
+-- white space that is passed over leaves what stands after all of it
+pub white-past : {r s u : List ℕ} {b : ℕ} → WhiteSpace r s → WhiteSpace r (b ∷ u) → is_white_space b ≡ false → WhiteSpace s (b ∷ u)
+white-past no_white_space v h = v
+white-past (white_space k w) no_white_space h = absurd (false≢true (sym h ∙ k))
+white-past (white_space k w) (white_space l v) h = white-past w v h
+
+white-front : {t u : List ℕ} {b c : ℕ} → WhiteSpace (b ∷ t) (c ∷ u) → IsTrue (is_white_space b) ⊎ ((b ≡ c) × (t ≡ u))
+white-front no_white_space = inr (refl, refl)
+white-front (white_space k w) = inl k
+
 -- the byte after white space is the one after all of it, or white itself
 pub white-byte : {s t u : List ℕ} {b c : ℕ} → WhiteSpace s (b ∷ t) → WhiteSpace s (c ∷ u) → is_white_space b ≡ false → IsTrue (is_white_space c) ⊎ (c ≡ b)
-white-byte no_white_space no_white_space h = inr refl
-white-byte no_white_space (white_space k w) h = absurd (false≢true (sym h ∙ k))
-white-byte (white_space k w) no_white_space h = inl k
-white-byte (white_space k w) (white_space l v) h = white-byte w v h
+white-byte w v h = elim (white-front (white-past v w h)) [ inl k ↦ inl k | inr e ↦ inr e.0 ]
 
 -- white space ends before one byte
 pub white-same : {s t u : List ℕ} {b c : ℕ} → WhiteSpace s (b ∷ t) → WhiteSpace s (c ∷ u) → is_white_space b ≡ false → is_white_space c ≡ false → (b ≡ c) × (t ≡ u)
-white-same no_white_space no_white_space h k = (refl, refl)
-white-same no_white_space (white_space l w) h k = absurd (false≢true (sym h ∙ l))
-white-same (white_space l w) no_white_space h k = absurd (false≢true (sym k ∙ l))
-white-same (white_space l w) (white_space m v) h k = white-same w v h k
+white-same w v h k = elim (white-front (white-past w v k)) [ inl l ↦ absurd (false≢true (sym h ∙ l)) | inr e ↦ e ]
 
 pub white-join : {s t u : List ℕ} → WhiteSpace s t → WhiteSpace t u → WhiteSpace s u
 white-join no_white_space v = v
 white-join (white_space h w) v = white_space h (white-join w v)
 
 pub white-none : {s t : List ℕ} {b : ℕ} → WhiteSpace s [] → WhiteSpace s (b ∷ t) → is_white_space b ≡ false → ⊥
-white-none no_white_space v h = elim v [ ]
-white-none (white_space l w) no_white_space h = false≢true (sym h ∙ l)
-white-none (white_space l w) (white_space m v) h = white-none w v h
-
--- white space that is passed over leaves what stands after all of it
-pub white-past : {r s u : List ℕ} {b : ℕ} → WhiteSpace r s → WhiteSpace r (b ∷ u) → is_white_space b ≡ false → WhiteSpace s (b ∷ u)
-white-past no_white_space v h = v
-white-past (white_space k w) no_white_space h = absurd (false≢true (sym h ∙ k))
-white-past (white_space k w) (white_space l v) h = white-past w v h
+white-none w v h = elim (white-past w v h) [ ]
 
 -- a value in front has one form and one end
 pub prop-same : {u v s q r : List ℕ} → IsPropValue u s q → IsPropValue v s r → (u ≡ v) × (q ≡ r)

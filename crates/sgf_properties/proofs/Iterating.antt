@@ -123,9 +123,7 @@ module _ (t : List ℕ) (from k : ℕ) (run : IsSpan is_white_space t from k) wh
   pub first-value : (end : ℕ) → k < length t → get_or t k 0 ≡ 91 → end < length t → get_or t end 0 ≡ 93 → SpellsValue t (k + 1) end
       → IsPropValue (slice_range t (k + 1) end) (drop from t) (drop (end + 1) t)
   first-value end lt e inside close spelled =
-      prop_value (subst (λ b. WhiteSpace (drop from t) (b ∷ drop (k + 1) t)) e (white-up-to lt))
-      (subst (λ b. IsValue (slice_range t (k + 1) end) (drop (k + 1) t) (b ∷ drop (end + 1) t)) close
-      (subst (IsValue (slice_range t (k + 1) end) (drop (k + 1) t)) (byte-at t end inside) spelled))
+      grind (arith, common_steps, prop_value, white-up-to, byte-at)
 
 -- values after others
 pub values-joined : {us vs : List (List ℕ)} {s m r : List ℕ} → ArePropValues us s m → ArePropValues vs m r → ArePropValues (us ++ vs) s r

@@ -16,8 +16,4 @@ module _ (t : List ℕ) (from : ℕ) where
 pub kept-push : (t : List ℕ) (ls : List LongValue) (at end : ℕ) → AreKeptLengths t ls → at ≤ length t → IsValueEnd t at end
     → AreKeptLengths t (ls ++ record { left = length t - at; bytes = end - at } ∷ [])
 kept-push t ls at end kept within h =
-    All-push (IsKeptLength t) ls (record { left = length t - at; bytes = end - at }) kept
-    (λ other e.
-    let same : at ≡ other = omega (arith, e) in
-    let to : end ≡ other + (end - at) = omega (arith, h.rises, same) in
-    subst (λ i. IsValueEnd t i (other + (end - at))) same (subst (IsValueEnd t at) to h))
+    All-push (IsKeptLength t) ls (record { left = length t - at; bytes = end - at }) kept (λ other e. grind (arith, common_steps, h.rises))

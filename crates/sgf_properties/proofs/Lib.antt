@@ -10,11 +10,8 @@ pub mod Names
 pub mod NameEnds
 pub mod Taking
 pub mod GoingOn
-pub mod Decoding
 pub mod DecimalValue
-pub mod Literal
 pub mod NearBits
-pub mod NearLiterals
 pub mod NearBrackets
 pub mod PlacedBytes
 pub mod PointBytes

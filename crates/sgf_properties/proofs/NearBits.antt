@@ -1,5 +1,5 @@
 -- Sixteen bytes that are tested at once, and the mask of those that pass.
-use Rattle.sgf_properties.proofs.Common.{◌≡◌, ℕ, ◌+◌, ◌<◌, ◌≤◌, Bool, true, false, List, map, length, get_or, inl, inr, ap, ◌∙◌, arith, w64, rules, count_trailing_zeros, chunk, mask_l, cases_lt, length-map, length-chunk, mask_l-mod, bit_mask_l, trailing_mask_l, first_set_mask_l, run_in_chunk_le, run_in_chunk_fails, run_in_chunk_stops, lowest_bit, bit_at-trailing_zeros, get_or-eq_default}
+use Rattle.sgf_properties.proofs.Common.{◌≡◌, ℕ, ◌+◌, ◌<◌, ◌≤◌, Bool, true, false, cond, eqb, List, map, length, get_or, inl, inr, ap, ◌∙◌, arith, w64, rules, count_trailing_zeros, chunk, mask_l, cases_lt, length-map, length-chunk, mask_l-mod, bit_mask_l, trailing_mask_l, first_set_mask_l, run_in_chunk_fails, run_in_chunk_stops, bit_at-trailing_zeros, get_or-eq_default}
 
 module _ (test : ℕ → Bool) (t : List ℕ) (at : ℕ) (room : at + 16 ≤ length t) where
   abbrev bytes : List ℕ
@@ -32,15 +32,14 @@ module _ (test : ℕ → Bool) (t : List ℕ) (at : ℕ) (room : at + 16 ≤ len
         before = run_in_chunk_fails test t at 16 r 0 room counted;
       }
 
-  -- none before the lowest bit passes
-  pub record AreBefore (r : ℕ) : Type 0 where
-    pub at_most : r ≤ 16
-    pub before : (i : ℕ) → at ≤ i → i < at + r → test (get_or t i 0) ≡ false
+  below : (b : Bool) (r n : ℕ) → r ≤ 16 → r ≤ n → r ≤ cond b 16 n
+  below true r n most low = most
+  below false r n most low = low
 
-  pub before-lowest : (m r : ℕ) → m ≡ bits → r ≡ lowest_bit m → AreBefore r
-  before-lowest m r are is =
-      let counted = is ∙ ap lowest_bit are ∙ first_set_mask_l test bytes 16 (length-chunk at 16 t room) (omega arith) in
-      record {
-        at_most = run_in_chunk_le test t at 16 r 0 room counted;
-        before = run_in_chunk_fails test t at 16 r 0 room counted;
-      }
+  -- no byte before the lowest bit passes
+  pub before-lowest : (m r i : ℕ) → m ≡ bits → r ≤ 16 → r ≤ count_trailing_zeros 64 m → at ≤ i → i < at + r → test (get_or t i 0) ≡ false
+  before-lowest m r i are most low from lt =
+      let first : ℕ = cond (eqb m 0) 16 (count_trailing_zeros 64 m) in
+      let far : r ≤ first = below (eqb m 0) r (count_trailing_zeros 64 m) most low in
+      let counted = ap (λ n. cond (eqb n 0) 16 (count_trailing_zeros 64 n)) are ∙ first_set_mask_l test bytes 16 (length-chunk at 16 t room) (omega arith) in
+      run_in_chunk_fails test t at 16 first 0 room counted i from (omega (arith, far, lt))

@@ -1,6 +1,5 @@
 -- Taking the elements of a list off its front, one after another.
-use Rattle.sgf_properties.proofs.Common.{◌≡◌, ℕ, ◌<◌, List, [], ◌∷◌, ◌++◌, map, length, slice_get, Option, Some, ap, ◌∙◌, append-nil, arith, length-append, rules, length-map}
-use Rattle.std.proofs.Math.Seq.{get_or-append_seam}
+use Rattle.sgf_properties.proofs.Common.{◌≡◌, ℕ, ◌<◌, List, [], ◌∷◌, ◌++◌, map, length, slice_get, Option, Some, ap, ◌∙◌, append-nil, arith, length-append, rules, length-map, get_or-append_seam}
 use Rattle.std.proofs.lemmas.Option.{slice_get-get_or}
 use Rattle.std.specs.Iterator.{YieldsFirstBy, Yields, SkipsThenYields}
 

@@ -1,5 +1,5 @@
 -- Raw values, by the grammar: how one is put together from its units, and that it has one end.
-use Rattle.sgf_properties.proofs.Common.{◌≡◌, ◌≢◌, ℕ, zero, suc, ◌+◌, ◌-◌, ◌<◌, ◌≤◌, List, [], ◌∷◌, ◌++◌, length, get_or, take, drop, slice_range, refl, sym, ap, subst, ◌∙◌, arith, length-drop, get_or-drop, drop-drop, common_steps, AreOrdinary, SpellsValue, IsValue, no_unit, ordinary, escaped, SpellsNoValue}
+use Rattle.sgf_properties.proofs.Common.{◌≡◌, ◌≢◌, ℕ, zero, suc, ◌+◌, ◌-◌, ◌<◌, ◌≤◌, List, [], ◌∷◌, ◌++◌, length, get_or, take, drop, slice_range, refl, sym, ap, subst, ◌∙◌, append-nil, arith, length-drop, get_or-drop, drop-drop, common_steps, AreOrdinary, SpellsValue, IsValue, no_unit, ordinary, escaped, SpellsNoValue}
 use Rattle.sgf_properties.proofs.ValueEnds.{drop-span, span-join, ordinary-other}
 
 -- units after units
@@ -46,33 +46,37 @@ module _ (t : List ℕ) (at : ℕ) where
       spelled-more a (a + 2) low (omega arith) h
       (rw two (subst (IsValue (take 2 (drop a t)) (drop a t)) (drop-drop 2 a t) unit))
 
--- a value has one end
+-- a value goes on from each of its fronts
+value-rest : {u v s m r : List ℕ} → IsValue u s m → IsValue v s (93 ∷ r) → (w : List ℕ) × IsValue w m (93 ∷ r) × (v ≡ u ++ w)
+value-rest {v = v} no_unit k = (v, k, refl)
+value-rest (ordinary x y h) no_unit = absurd (x refl)
+value-rest (ordinary {b} x y h) (ordinary z w k) = let (v, rest, is) = value-rest h k in (v, rest, ap (λ c. b ∷ c) is)
+value-rest (ordinary x y h) (escaped k) = absurd (y refl)
+value-rest (escaped h) (ordinary z w k) = absurd (w refl)
+value-rest (escaped {b} h) (escaped k) = let (v, rest, is) = value-rest h k in (v, rest, ap (λ c. 92 ∷ b ∷ c) is)
+
+value-end : {w q r : List ℕ} → IsValue w (93 ∷ q) (93 ∷ r) → (w ≡ []) × (q ≡ r)
+value-end no_unit = (refl, refl)
+value-end (ordinary x y k) = absurd (x refl)
+
+-- it has one end
 pub value-same : {u v s q r : List ℕ} → IsValue u s (93 ∷ q) → IsValue v s (93 ∷ r) → (u ≡ v) × (q ≡ r)
-value-same no_unit no_unit = (refl, refl)
-value-same no_unit (ordinary x y k) = absurd (x refl)
-value-same (ordinary x y h) no_unit = absurd (x refl)
-value-same (ordinary {b} x y h) (ordinary z w k) = let both = value-same h k in (ap (λ c. b ∷ c) both.0, both.1)
-value-same (ordinary x y h) (escaped k) = absurd (y refl)
-value-same (escaped h) (ordinary z w k) = absurd (w refl)
-value-same (escaped {b} h) (escaped k) = let both = value-same h k in (ap (λ c. 92 ∷ b ∷ c) both.0, both.1)
+value-same {u} h k =
+    let (w, rest, is) = value-rest h k in
+    let (none, same) = value-end rest in (sym (is ∙ ap (λ x. u ++ x) none ∙ append-nil u), same)
 
--- and none where the text ends in it
+-- and none where the text ends in it, or after a `\`
+no-end : {w r : List ℕ} → ¬ IsValue w [] (93 ∷ r)
+no-end k = elim k [ ]
+
+no-cut : {w r : List ℕ} → ¬ IsValue w (92 ∷ []) (93 ∷ r)
+no-cut (ordinary x y k) = y refl
+
 pub value-unended : {u v s r : List ℕ} → IsValue u s [] → ¬ IsValue v s (93 ∷ r)
-value-unended no_unit k = elim k [ ]
-value-unended (ordinary x y h) no_unit = x refl
-value-unended (ordinary x y h) (ordinary z w k) = value-unended h k
-value-unended (ordinary x y h) (escaped k) = y refl
-value-unended (escaped h) (ordinary z w k) = w refl
-value-unended (escaped h) (escaped k) = value-unended h k
+value-unended h k = no-end (value-rest h k).1
 
--- or after a `\`
 value-cut : {u v s r : List ℕ} → IsValue u s (92 ∷ []) → ¬ IsValue v s (93 ∷ r)
-value-cut no_unit (ordinary z w k) = w refl
-value-cut (ordinary x y h) no_unit = x refl
-value-cut (ordinary x y h) (ordinary z w k) = value-cut h k
-value-cut (ordinary x y h) (escaped k) = y refl
-value-cut (escaped h) (ordinary z w k) = w refl
-value-cut (escaped h) (escaped k) = value-cut h k
+value-cut h k = no-cut (value-rest h k).1
 
 pub none-cut : (t : List ℕ) (at a : ℕ) → a + 1 ≡ length t → get_or t a 0 ≡ 92 → SpellsValue t at a → SpellsNoValue t at
 none-cut t at a e f h v r k = grind (arith, common_steps, value-cut)

@@ -1,6 +1,5 @@
 -- Which `]` ends a raw value: the first one with an even number of `\` directly before it.
-use Rattle.sgf_properties.proofs.Common.{◌≡◌, ◌≢◌, ℕ, zero, suc, ◌+◌, ◌-◌, ◌*◌, ◌/◌, ◌%◌, ◌<◌, ◌≤◌, ◌⊎◌, inl, inr, List, length, get_or, drop, slice_range, Option, Some, None, MatchOption, subst, arith, rules, cases_eq, common_steps, AreOrdinary, SpellsValue, IsValueEnd, IsUnended, in_units, in_escape, IsValue, HasNoBracket, IsNextBracket, AreBackslashesBefore, AreEscapes, SpellsNoValue}
-use Rattle.std.proofs.Math.Seq.{drop-length}
+use Rattle.sgf_properties.proofs.Common.{◌≡◌, ◌≢◌, ℕ, zero, suc, ◌+◌, ◌-◌, ◌*◌, ◌/◌, ◌%◌, ◌<◌, ◌≤◌, ◌⊎◌, inl, inr, List, length, get_or, drop, slice_range, Option, Some, None, MatchOption, subst, arith, rules, cases_eq, common_steps, AreOrdinary, SpellsValue, IsValueEnd, IsUnended, in_units, in_escape, IsValue, HasNoBracket, IsNextBracket, AreBackslashesBefore, AreEscapes, SpellsNoValue, drop-length}
 use Rattle.sgf_properties.proofs.ValueEnds.{other-ordinary}
 use Rattle.sgf_properties.proofs.ValueSpelled.{spelled-none, spelled-ordinary, spelled-escape, value-unended, none-cut}
 
@@ -62,10 +61,7 @@ module _ (t : List ℕ) (at : ℕ) where
     run-units =
         let low : start ≤ first = run.low in
         let high : first ≤ end = run.rises in
-        elim (units-to (first - start) start first (omega arith) (omega arith) (λ i least lt. none i least (omega arith)) units) [
-          | inl all ↦ all
-          | inr cut ↦ search rules
-        ]
+        grind (arith, common_steps, units-to (first - start) start first (omega arith) (omega arith) (λ i least lt. none i least (omega arith)) units)
 
     -- and its escapes are units
     run-pairs : (k : ℕ) → first + 2 * k ≤ end → AreValueUnits t at (first + 2 * k)

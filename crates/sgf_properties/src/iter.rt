@@ -113,9 +113,8 @@ impl<'a> Iterator for Values<'a> {
     }
 }
 
-/// The first property of a text, and the offset where its values end. Its identifier begins at the offset `start`, after white space.
-/// Offsets are in bytes, from 0. Whole properties must stand in the text, up to the end of a node. `long` has the kept lengths of the text's
-/// long values.
+/// The first property of a text, and the offset where its values end. Its identifier begins at `start`, after white space. Whole properties
+/// must stand in the text, up to the end of a node. `long` has the kept lengths of the text's long values. Offsets are in bytes, from 0.
 #[inline(always)]
 pub fn property_at<'a>(text: &'a [u8], start: usize, long: &Vec<LongValue>) -> (PropRef<'a>, usize)
     requires held { ArePropertiesIn text.now }
@@ -143,9 +142,8 @@ pub fn property_at<'a>(text: &'a [u8], start: usize, long: &Vec<LongValue>) -> (
     (property, next)
 }
 
-/// Where the raw value at `at` begins, after white space and a `[`, and where its `]` is. None if no value is there.
-///
-/// The kept lengths are passed as a reference to a vector, because that is one word. Many calls pass it on, and few read it.
+/// Where the raw value at `at` begins, after white space and a `[`, and where its `]` is. None if no value is there. The kept lengths are
+/// passed as a reference to a vector, because that is one word. Many calls pass it on, and few read it.
 #[inline(always)]
 fn value_at(text: &[u8], at: usize, long: Option<&Vec<LongValue>>) -> Option<(usize, usize)>
     requires within { at ≤ length text.now }

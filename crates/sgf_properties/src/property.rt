@@ -37,17 +37,15 @@ impl<'a> PropRef<'a> {
         self.identifier[0]
     }
 
-    /// Whether its name is `name`. The name is the upper-case letters of the
-    /// identifier, so `GaMe` has the name `GM` (this project's choice).
+    /// Whether its name is `name`. The name is the capitals of the identifier, so `GaMe` has the name `GM` (this project's choice).
     #[inline(always)]
     pub fn is(&self, name: &[u8]) -> bool
         ensures { IsTrue result ↔ (self.now.name ≡ name.now) }
     {
-        let identifier = self.identifier;
-        if is_short_name(identifier) {
-            identifier == name
+        if is_short_name(self.identifier) {
+            self.identifier == name
         } else {
-            is_name_in(identifier, name)
+            is_name_in(self.identifier, name)
         }
     }
 
@@ -84,10 +82,8 @@ impl<'a> PropRef<'a> {
         self.iter().count()
     }
 
-    /// Raw value `i`, from 0 in file order: the bytes between its `[` and its `]`. `i` must be less than `values()`. The bytes
-    /// are a part of the text that was read, and live as long as it does.
-    ///
-    /// This goes over the values before it; to get all of them, use `iter`.
+    /// Raw value `i`, from 0 in file order: the bytes between its `[` and its `]`. `i` must be less than `values()`. The bytes are a part of
+    /// the text that was read, and live as long as it does. This goes over the values before it; to get all of them, use `iter`.
     pub fn value(&self, i: usize) -> &'a [u8]
         requires { i < length (values self.now) }
         ensures { slice_get (values self.now) i ≡ Some result.now }

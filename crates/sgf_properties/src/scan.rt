@@ -40,8 +40,7 @@ pub fn stands_at(text: &[u8], at: usize, byte: u8) -> bool
     at < text.len() && text[at] == byte
 }
 
-/// Whether a capital, which begins the name of a property (SGF FF[4], PropIdent), stands at the offset `at`. Past the end of the text none
-/// does.
+/// Whether a capital, which begins a name (SGF FF[4], PropIdent), stands at the offset `at`. Past the end of the text none does.
 #[inline(always)]
 pub fn capital_at(text: &[u8], at: usize) -> bool
     ensures stands { IsTrue result → (at < length text.now) × IsTrue (is_upper (slice_index text.now at)) }

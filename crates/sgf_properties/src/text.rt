@@ -9,15 +9,12 @@ use crate::quick::literals::{TOGETHER, near_literals};
 /// Appends the decoded text of a raw value to `out` (SGF FF[4], Text).
 ///
 /// - A line break is CR LF, LF CR, LF or CR, and becomes an LF.
-/// - A `\` before a line break is dropped, and the line break too. Before
-///   any other byte, or at the end, only the `\` is dropped.
+/// - A `\` before a line break is dropped, and the line break too. Before any other byte, or at the end, only the `\` is dropped.
 /// - The bytes 9, 11 and 12 become a space, after a `\` too.
 /// - Every other byte stays.
 ///
-/// Three of these rules are this project's choices. A CR and an LF side by side, in either order and taken from the left, are one
-/// break. A break becomes an LF. A `\` as the last byte becomes nothing.
-///
-/// `MemoryFault` comes only if memory was refused; then `out` is unchanged.
+/// Three of these rules are this project's choices. A CR and an LF side by side, in either order and taken from the left, are one break. A
+/// break becomes an LF. A `\` as the last byte becomes nothing. `MemoryFault` comes only if memory was refused; then `out` is unchanged.
 pub fn push_text(raw: &[u8], out: &mut Vec<u8>) -> Result<(), MemoryFault>
     ensures decoded { OnOk result (out.new.items ≡ out.old.items ++ text_of raw.now) }
     ensures unchanged { OnErr result (out.new.items ≡ out.old.items) }
@@ -36,8 +33,7 @@ pub fn push_text(raw: &[u8], out: &mut Vec<u8>) -> Result<(), MemoryFault>
     Ok(())
 }
 
-/// A number of bytes at the front that stand for themselves, whatever follows: neither escapes nor white space. The byte after them may do
-/// so too.
+/// A number of bytes at the front that stand for themselves, whatever follows: neither escapes nor white space. More may follow.
 fn literal_length(raw: &[u8]) -> usize
     ensures within { result ≤ length raw.now }
     ensures literal { text_of raw.now ≡ take result raw.now ++ text_of (drop result raw.now) }
@@ -56,8 +52,7 @@ fn literal_length(raw: &[u8]) -> usize
     end
 }
 
-/// What the front of a raw value becomes, a byte or nothing, and the rest of the value. This decides the rules for escapes, line breaks and
-/// white space, and is the plain way.
+/// What the front of a raw value becomes, a byte or nothing, and the rest. This plain way decides on escapes, line breaks and white space.
 fn decode_front(raw: &[u8]) -> (Option<u8>, &[u8])
     ensures decoded { text_of raw.now ≡ option_to_list result.0 ++ text_of result.1.now }
     ensures room { length (option_to_list result.0) + length result.1.now ≤ length raw.now }

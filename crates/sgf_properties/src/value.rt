@@ -1,10 +1,9 @@
 //! Where raw values end (SGF FF[4], PropValue and Escaping): at the first `]` that no `\` escapes.
-//! The length of a long value is kept when the value is read, so that its end isn't searched for again.
 
 ghost use Rattle.std.specs.Prelude.{◌<◌, ◌≤◌, ◌+◌, length, IfSome, MatchOption};
 ghost use Rattle.sgf_properties.specs.Offsets.{IsValueEnd, IsUnended};
 ghost use Rattle.sgf_properties.specs.KeptLengths.{AreKeptLengths};
-ghost use Rattle.sgf_properties.specs.inner.Searches.{SpellsNoValue, HasNoBracket, IsNextBracket, AreBackslashesBefore, AreEscapes};
+ghost use Rattle.sgf_properties.specs.inner.Searches.{SpellsNoValue, AreBackslashesBefore, AreEscapes};
 
 use crate::quick::value::kept_end;
 use memchr::memchr;
@@ -12,8 +11,7 @@ use memchr::memchr;
 /// A long raw value, in 8 bytes. Its length is kept, so that the value's end isn't searched for again.
 #[derive(Clone, Copy)]
 pub struct LongValue {
-    /// The number of bytes from the value's first byte to the end of the text. The number is the
-    /// same in each part of the text that ends where the text ends.
+    /// The number of bytes from the value's first byte to the end of the text. It is the same in each part of the text that ends there.
     pub left: u32,
     /// The number of bytes of the value, without its brackets.
     pub bytes: u32,
@@ -38,15 +36,16 @@ pub(crate) fn far_end(text: &[u8], at: usize, long: Option<&Vec<LongValue>>) -> 
 /// The offset of the `]` that ends the raw value at `at`, by searches (SGF FF[4], PropValue and Escaping). None if the text ends before it.
 /// Offsets are in bytes, from 0. This is the plain way.
 ///
-/// A `]` is escaped if an odd number of `\` is just before it. The `\` are counted from `start` on, which is where the value
-/// begins or an escape ends: earlier bytes belong to other units.
+/// A `]` is escaped if an odd number of `\` is just before it. The `\` are counted from `start` on, which is where the value begins or an
+/// escape ends: earlier bytes belong to other units.
 #[inline(never)]
 pub fn far_value_end(text: &[u8], at: usize) -> Option<usize>
     requires { at ≤ length text.now }
     ensures { MatchOption result (IsUnended text.now at) (λ end. IsValueEnd text.now at end) }
 {
     let mut start = at;
-    'brackets: while let Some(bracket) = far_bracket(text, start) {
+    'brackets: while let Some(further) = memchr(b']', &text[start..]) {
+        let bracket = start + further;
         let escapes = bracket - first_escape(text, start, bracket);
         if escapes % 2 == 0 {
             return Some(bracket);
@@ -54,18 +53,6 @@ pub fn far_value_end(text: &[u8], at: usize) -> Option<usize>
         start = escapes_end(text, bracket + 1);
     }
     None
-}
-
-/// The first `]` from `at` on, by a search that costs something to begin.
-#[inline(never)]
-fn far_bracket(text: &[u8], at: usize) -> Option<usize>
-    requires { at ≤ length text.now }
-    ensures { MatchOption result (HasNoBracket text.now at (length text.now)) (λ end. IsNextBracket text.now at end) }
-{
-    match memchr(b']', &text[at..]) {
-        Some(further) => Some(at + further),
-        None => None,
-    }
 }
 
 /// The first `\` of the run of `\` just before `end`; `end` if there is none. Bytes before `at` aren't counted.

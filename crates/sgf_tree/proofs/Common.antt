@@ -7,11 +7,11 @@ pub use Rattle.std.proofs.lemmas.List.Elements.{All-append, All-cons, All-nil, A
 pub use Rattle.std.proofs.lemmas.Option.{none-some, option_and_then_some, same_Some, slice_get-get_or, slice_get-map, slice_get_read}
 pub use Rattle.std.proofs.lemmas.Result.{err_from_is_err_and, on_ok_weaker}
 pub use Rattle.sgf_outline.proofs.Copying.{copied-as, copies-none, copies-then}
-pub use Rattle.sgf_outline.proofs.GameEnds.{add_games, closed-in, fewer-games, game-ends, unclosed_count-closed}
-pub use Rattle.sgf_outline.proofs.OrderedNodes.{length-further_nodes, length-nodes_from, parent_at-lt}
-pub use Rattle.sgf_properties.proofs.Classes.{lower-not_upper, upper-not_bracket, upper-not_white_space, white-not_lower, white-not_upper}
-pub use Rattle.sgf_properties.proofs.NameEnds.{bracket-here, span-one}
-pub use Rattle.sgf_properties.proofs.Spans.{span-none}
+pub use Rattle.sgf_outline.proofs.GameEnds.{add_games, closed-in, fewer-games, game-ends, unclosed_count-closed, game_count-closed}
+pub use Rattle.sgf_outline.proofs.OrderedNodes.{length-further_nodes, length-nodes_from, parent_at-lt, length-ordered_nodes, parent-within, parent_in, parent_in-further, parent_in-left, parent_in-right, parent_in-within}
+pub use Rattle.sgf_properties.proofs.Classes.{lower-not_upper, upper-not_bracket, upper-not_white_space, white-not_lower, white-not_upper, between-not_upper, upper-range, white-not_mark}
+pub use Rattle.sgf_properties.proofs.NameEnds.{bracket-here, span-one, name-begins, name-longer}
+pub use Rattle.sgf_properties.proofs.Spans.{span-none, span-more}
 pub use Rattle.sgf_properties.proofs.ValueEnds.{span-join}
 pub use Rattle.sgf_properties.specs.Front.{is_letter, name_in}
 pub use Rattle.sgf_properties.specs.KeptLengths.{AreKeptLengths}
@@ -36,3 +36,5 @@ pub use Rattle.sgf_tree.specs.inner.NodesRead.{AreNodesRead, AreOwnRead, AreRead
 pub use Rattle.sgf_tree.specs.inner.Placing.{HoldsNodes, ordered_places}
 pub use Rattle.sgf_tree.specs.inner.Progress.{ComesTo}
 pub use Rattle.sgf_tree.specs.inner.PropertiesRead.{ArePropertiesRead, AreValuesEnded, IsNameRead, IsPropertyRead, StandsAfterNode, StandsIn, with_properties}
+pub use Rattle.sgf_outline.proofs.Starts.{first-start, starts-are, starts_from}
+pub use Rattle.sgf_outline.proofs.Outlined.{same-game, sequence-further}

@@ -1,8 +1,7 @@
 -- What a tally of games counts.
-use Rattle.sgf_tree.proofs.Common.{◌≡◌, ℕ, ◌+◌, ◌≤◌, false, cond, List, [], ◌∷◌, length, Some, refl, arith, rules, eqb, common_steps, joined, UnclosedGame, Stack, after_game, whole_game, close, Games, no_games, game, node_count, leaf_count, unclosed_count}
+use Rattle.sgf_tree.proofs.Common.{◌≡◌, ℕ, ◌+◌, ◌≤◌, false, cond, List, [], ◌∷◌, length, Some, refl, arith, rules, eqb, common_steps, joined, UnclosedGame, Stack, after_game, whole_game, close, Games, no_games, game, node_count, leaf_count, unclosed_count, add_games, game-ends, unclosed_count-closed, game_count-closed}
 use Rattle.sgf_tree.specs.inner.Counting.{unclosed_leaves, are_none, is_bare, IsTallyOf}
 use Rattle.sgf_tree.specs.declared.reader.counting.Tally.{Tally}
-use Rattle.sgf_outline.proofs.GameEnds.{add_games, game-ends, unclosed_count-closed, game_count-closed}
 
 leaf_count-followed : (a b : Games) → leaf_count (joined a b) ≡ leaf_count a + leaf_count b
 leaf_count-followed no_games b = omega arith

@@ -24,13 +24,10 @@ runs-begins t z h =
 
 -- a front that is refused begins no text, nor does a longer one
 begins-below : (t : List ℕ) (at : ℕ) → run 0 start (take (at + 1) t) ≡ None → (n : ℕ) → BeginsCollection (take n t) → n ≤ at
-begins-below t at h n b = ⊎_elim (λ lt. absurd (longer lt)) (λ le. le) (cases_lt at n)
-  where
-    longer : at < n → ⊥
-    longer lt =
-        let (z, e) = begins-runs (take n t) b in
-        let (y, f) = run-front (at + 1) (take n t) z e in
-        none-some y (sym h ∙ rw (take-take (at + 1) n t (omega arith)) at f)
+begins-below t at h n b =
+    let (z, e) = begins-runs (take n t) b in
+    let (y, f) = run-front (at + 1) (take n t) z e in
+    grind (arith, common_steps, cases_lt at n, none-some, take-take (at + 1) n t)
 
 pub refused-fault : (t : List ℕ) (at : ℕ) (z : MachineState) → at < length t → run 0 start (take at t) ≡ Some z
     → next_state at z (get_or t at 0) ≡ None → IsFirstFault t at × ((c : Games) → Spells c t → ⊥)

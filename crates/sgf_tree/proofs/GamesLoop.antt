@@ -55,10 +55,8 @@ module _ (t : List ℕ) where
     pub close-stands : (g : UnclosedGame) (gs : List UnclosedGame) (next : ℕ) → k.unclosed ≡ g ∷ gs → at < length t → get_or t at 0 ≡ 41 → IsSpan is_white_space t (at + 1) next
         → StandsBetween t next (add_games k.closed gs (whole_game g))
     close-stands g gs next is lt e white =
-        let k' : Stack = add_games k.closed gs (whole_game g) in
-        let step_is : next_state at stands.state (get_or t at 0) ≡ Some (after_game k') =
-        stands.next lt ∙ ap (between_games k) e ∙ ap (close_in k.closed) is ∙ closed-in k.closed g gs in
-        stands-after t (at + 1) next k' white (run-take-step t at stands.state (after_game k') stands.reached lt step_is)
+        let step_is = stands.next lt ∙ ap (between_games k) e ∙ ap (close_in k.closed) is ∙ closed-in k.closed g gs in
+        search (rules, stands-after, run-take-step)
 
     -- the end of the text
     module _ (ends : at ≡ length t) where

@@ -1,8 +1,6 @@
 -- The last node below each node, in file order.
-use Rattle.sgf_tree.proofs.Common.{◌≡◌, ℕ, zero, suc, ◌+◌, ◌-◌, ◌<◌, ◌≤◌, ◌⊎◌, inl, inr, true, false, All, List, [], ◌∷◌, ◌++◌, length, get_or, slice_get, Option, Some, None, refl, sym, ap, subst, ◌∙◌, arith, length-append, cases_lt, get_or_append_left, get_or-append_right, All-nil, All-cons, All-append, slice_get-get_or, OrderedNode, further_nodes, nodes_from, ordered_nodes, IsAtOrBelow, itself, below, IsLastBelow, Node, Games, no_games, game, node_count, lasts}
+use Rattle.sgf_tree.proofs.Common.{common_steps, ◌≡◌, ℕ, zero, suc, ◌+◌, ◌-◌, ◌<◌, ◌≤◌, ◌⊎◌, inl, inr, true, false, All, List, [], ◌∷◌, ◌++◌, length, get_or, slice_get, Option, Some, None, refl, sym, ap, subst, ◌∙◌, arith, length-append, cases_lt, get_or_append_left, get_or-append_right, All-nil, All-cons, All-append, slice_get-get_or, OrderedNode, further_nodes, nodes_from, ordered_nodes, IsAtOrBelow, itself, below, IsLastBelow, Node, Games, no_games, game, node_count, lasts, parent_in, parent_in-within, parent_in-left, parent_in-right, parent_in-further, length-further_nodes, length-nodes_from, parent-within, parent_at-lt, starts_from, first-start}
 use Rattle.sgf_outline.proofs.Lists.{slice_get-left, slice_get-right, get_or-joined}
-use Rattle.sgf_outline.proofs.OrderedNodes.{parent_in, parent_in-within, parent_in-left, parent_in-right, parent_in-further, length-further_nodes, length-nodes_from, parent-within, parent_at-lt}
-use Rattle.sgf_outline.proofs.Starts.{starts_from, first-start}
 use Rattle.sgf_tree.proofs.Stacks.{length-lasts}
 
 -- each node of games below p has a parent
@@ -172,11 +170,7 @@ module _ (c : Games) (n last : ℕ) (span : IsSpanBelow 0 (ordered_nodes c) n la
   span-greatest : (j : ℕ) → IsAtOrBelow c n j → (n ≤ j) × (j ≤ last)
   span-greatest j itself = (omega arith, span.rises)
   span-greatest j (below {parent = q} h under) =
-      let up = span-greatest q under in
-      elim (cases_lt last j) [
-        | inl past ↦ elim (span.outside j q (omega arith) h) [ inl lo ↦ absurd (omega (arith, up.0)) | inr hi ↦ absurd (omega (arith, up.1)) ]
-        | inr le ↦ (omega (arith, up.0, parent_at-lt), le)
-      ]
+      let up = span-greatest q under in grind (arith, common_steps, cases_lt last j, span.outside j q, parent_at-lt c j q h)
 
 pub lasts-below : (c : Games) (k l n : ℕ) → get_or (starts_from 0 c) k 0 ≤ n → n < get_or (starts_from 0 c) (k + 1) (node_count c) → slice_get (lasts 0 c) k ≡ Some l → IsLastBelow c n l
 lasts-below c k l n from to h =

@@ -1,9 +1,8 @@
 -- How the name of a property is read, up to the `[` after it.
-use Rattle.sgf_tree.proofs.Common.{◌≡◌, ◌≢◌, ℕ, zero, suc, ◌+◌, ◌-◌, ◌<◌, ◌≤◌, false, inl, inr, IsTrue, List, [], ◌∷◌, ◌++◌, length, get_or, slice_range, Some, None, refl, sym, ap, subst, ◌∙◌, arith, if◌then◌else◌, ne_eqb, rules, cases_lt, or_cases, or_parts, common_steps, filter-append, is_letter, name_in, IsSpan, IsBracket, Started, MachineState, in_name, after_name, in_value, next_state, accepted, is_white_space, is_upper, IsFaultyAt, ComesTo, IsNameRead, white-not_upper, white-not_lower, span-none, span-join}
+use Rattle.sgf_tree.proofs.Common.{span-more, append-nil, ◌≡◌, ◌≢◌, ℕ, zero, suc, ◌+◌, ◌-◌, ◌<◌, ◌≤◌, false, inl, inr, IsTrue, List, [], ◌∷◌, ◌++◌, length, get_or, slice_range, Some, None, refl, sym, ap, subst, ◌∙◌, arith, if◌then◌else◌, ne_eqb, rules, cases_lt, or_cases, or_parts, common_steps, filter-append, is_letter, name_in, IsSpan, IsBracket, Started, MachineState, in_name, after_name, in_value, next_state, accepted, is_white_space, is_upper, IsFaultyAt, ComesTo, IsNameRead, white-not_upper, white-not_lower, span-none, span-join, span-one, name-longer, name-begins}
 use Rattle.sgf_tree.proofs.Run.{run-take-step}
 use Rattle.sgf_tree.proofs.Spans.{run-white, run-letters}
 use Rattle.sgf_tree.proofs.ValueEnds.{stops-faulty}
-use Rattle.sgf_properties.proofs.NameEnds.{span-one, name-longer, name-begins}
 
 name-reached : (t : List ℕ) (start end : ℕ) (n : Started) → start < length t → IsTrue (is_upper (get_or t start 0)) → IsSpan is_letter t start end
     → ComesTo t (start + 1) (in_name n (get_or t start 0 ∷ [])) → ComesTo t end (in_name n (name_in (slice_range t start end)))
@@ -88,11 +87,9 @@ capitals-name : (t : List ℕ) (from n : ℕ) → from + n ≤ length t → ((i 
 capitals-name t from zero within capitals = let none : from + 0 ≡ from = omega arith in rw (none, span-none t from) refl
 capitals-name t from (suc n) within capitals =
     let more : from + suc n ≡ from + n + 1 = omega arith in
-    rw more
-    (sym (name-join t from (from + n) (from + n + 1) (omega arith) (omega arith))
-    ∙ ap (λ s. s ++ name_in (slice_range t (from + n) (from + n + 1))) (capitals-name t from n (omega arith) (λ i low high. capitals i low (omega arith)))
-    ∙ ap (λ s. slice_range t from (from + n) ++ s) (sym (name-capital t (from + n) (omega arith) (capitals (from + n) (omega arith) (omega arith))))
-    ∙ span-join t from (from + n) (from + n + 1) (omega arith) (omega arith))
+    let before = capitals-name t from n (omega arith) (λ i low high. capitals i low (omega arith)) in
+    let last = capitals (from + n) (omega arith) (omega arith) in
+    rw more (grind (arith, common_steps, span-more t from (from + n), filter-append, append-nil))
 
 pub capitals-are : (t : List ℕ) (from to : ℕ) → IsSpan is_upper t from to → slice_range t from to ≡ name_in (slice_range t from to)
 capitals-are t from to run =

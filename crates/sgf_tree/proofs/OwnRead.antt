@@ -30,9 +30,7 @@ module _ (t : List ℕ) (place : ℕ) (lt : place < length t) (semicolon : get_o
   pub piece-copied : (end : ℕ) → place + 1 ≤ end → CopiesNode kept keeps t place before after (slice_range t place end) → (part : List ℕ) → StandsIn t (place + 1) end part
       → CopiesNode kept keeps t place before after (59 ∷ part)
   piece-copied end le copied part stands =
-      let whole : slice_range t place end ≡ 59 ∷ part =
-      sym (span-join t place (place + 1) end (omega arith) le) ∙ ap (λ s. s ++ slice_range t (place + 1) end) (span-one t place lt ∙ ap (λ b. b ∷ []) semicolon)
-      ∙ ap (λ s. 59 ∷ s) stands in
+      let whole : slice_range t place end ≡ 59 ∷ part = grind (arith, common_steps, span-join t place (place + 1) end, span-one t place lt) in
       subst (CopiesNode kept keeps t place before after) whole copied
 
   -- part by part

@@ -1,6 +1,5 @@
 -- The places of all nodes, as they are kept.
-use Rattle.sgf_tree.proofs.Common.{◌≡◌, ℕ, ◌<◌, List, length, get_or, Some, ap, ◌∙◌, arith, common_steps, length-map, slice_get_read, slice_get-map, OrderedNode, ordered_nodes, place_at, Games, node_count, ordered_places}
-use Rattle.sgf_outline.proofs.OrderedNodes.{length-ordered_nodes}
+use Rattle.sgf_tree.proofs.Common.{◌≡◌, ℕ, ◌<◌, List, length, get_or, Some, ap, ◌∙◌, arith, common_steps, length-map, slice_get_read, slice_get-map, OrderedNode, ordered_nodes, place_at, Games, node_count, ordered_places, length-ordered_nodes}
 
 module _ (g : Games) (places : List ℕ) (kept : places ≡ ordered_places (ordered_nodes g)) where
   pub places_count : length places ≡ node_count g

@@ -1,6 +1,5 @@
 -- A property with one value, as the code tells it.
-use Rattle.sgf_tree.proofs.Common.{◌≡◌, ◌≢◌, ℕ, ◌+◌, ◌<◌, ◌≤◌, Bool, false, IsTrue, List, [], ◌∷◌, ◌++◌, length, get_or, slice_range, refl, sym, ap, subst, ◌∙◌, arith, append-nil, rules, flat_map, ne_eqb, or_left, common_steps, flat_map-append, is_letter, IsSpan, IsBracket, IsValueEnd, Started, in_node, IsMove, EndsNode, IsShortProperty, is_white_space, is_upper, is_lower, Property, property_text, ComesTo, AreValuesEnded, StandsIn, IsNameRead, IsPropertyRead, ArePropertiesRead, with_properties, next_state, accepted, after_value, bracket-here, span-none, span-join}
-use Rattle.sgf_properties.proofs.Classes.{upper-range, between-not_upper, upper-not_white_space, upper-not_bracket}
+use Rattle.sgf_tree.proofs.Common.{◌≡◌, ◌≢◌, ℕ, ◌+◌, ◌<◌, ◌≤◌, Bool, false, IsTrue, List, [], ◌∷◌, ◌++◌, length, get_or, slice_range, refl, sym, ap, subst, ◌∙◌, arith, append-nil, rules, flat_map, ne_eqb, or_left, common_steps, flat_map-append, is_letter, IsSpan, IsBracket, IsValueEnd, Started, in_node, IsMove, EndsNode, IsShortProperty, is_white_space, is_upper, is_lower, Property, property_text, ComesTo, AreValuesEnded, StandsIn, IsNameRead, IsPropertyRead, ArePropertiesRead, with_properties, next_state, accepted, after_value, bracket-here, span-none, span-join, upper-range, between-not_upper, upper-not_white_space, upper-not_bracket}
 use Rattle.sgf_tree.proofs.NameEnds.{name-read, capitals-are}
 use Rattle.sgf_tree.proofs.NodeEnds.{StandsInNode, node-done, node-name}
 use Rattle.sgf_outline.proofs.LoneNodes.{nothing-skipped}
@@ -81,7 +80,7 @@ module _ (t : List ℕ) (at : ℕ) where
             let done : Started = with_properties n ps in
             let (p, after, last) = property.reached done (node-name t end done stands lt capital) in
             let texts : flat_map property_text ps ++ property_text p ≡ flat_map property_text (ps ++ p ∷ []) =
-            ap (λ s. flat_map property_text ps ++ s) (sym (append-nil (property_text p))) ∙ sym (flat_map-append property_text ps (p ∷ [])) in (
+            grind (arith, common_steps, append-nil (property_text p), flat_map-append property_text ps (p ∷ [])) in (
               ps ++ p ∷ [],
               record {
                 state = after_value done p;

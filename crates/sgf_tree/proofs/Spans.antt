@@ -1,7 +1,6 @@
 -- The machine over a span of a text, by the offsets of its bytes: white space, letters, the ordinary bytes of a value.
-use Rattle.sgf_tree.proofs.Common.{◌≡◌, ℕ, zero, suc, ◌+◌, ◌-◌, ◌<◌, ◌≤◌, ◌⊎◌, IsTrue, List, [], ◌∷◌, ◌++◌, length, get_or, take, slice_range, filter, Some, subst, add-zero, append_assoc, append-nil, arith, rules, filter-append, Started, MachineState, start, in_name, next_state, run, is_white_space, is_upper, is_lower, lower-not_upper}
+use Rattle.sgf_tree.proofs.Common.{◌≡◌, ℕ, zero, suc, ◌+◌, ◌-◌, ◌<◌, ◌≤◌, ◌⊎◌, IsTrue, List, [], ◌∷◌, ◌++◌, length, get_or, take, slice_range, filter, Some, subst, add-zero, append_assoc, append-nil, arith, rules, filter-append, Started, MachineState, start, in_name, next_state, run, is_white_space, is_upper, is_lower, lower-not_upper, span-none, span-more}
 use Rattle.sgf_tree.proofs.Run.{run-take-step}
-use Rattle.sgf_properties.proofs.Spans.{span-none, span-more}
 
 -- the state skips white space
 abbrev pub Stays : MachineState → Type 0

@@ -1,6 +1,5 @@
 -- What a text spells, the machine accepts; so a text spells one collection at most.
-use Rattle.sgf_tree.proofs.Common.{◌≡◌, ℕ, List, [], ◌∷◌, length, Some, option_and_then, refl, sym, ◌∙◌, rules, same_Some, start, after_game, next_state, accepted, collection_of, WhiteSpace, no_white_space, white_space, games, ByteOrderMark, no_byte_order_mark, byte_order_mark, Spells, spells, Games, no_games, game}
-use Rattle.sgf_properties.proofs.Classes.{white-not_mark}
+use Rattle.sgf_tree.proofs.Common.{◌≡◌, ℕ, List, [], ◌∷◌, length, Some, option_and_then, refl, sym, ◌∙◌, rules, same_Some, start, after_game, next_state, accepted, collection_of, WhiteSpace, no_white_space, white_space, games, ByteOrderMark, no_byte_order_mark, byte_order_mark, Spells, spells, Games, no_games, game, white-not_mark}
 use Rattle.sgf_tree.proofs.Transitions.{no_stack}
 use Rattle.sgf_tree.proofs.Reading.{read, run-whole, over-white}
 use Rattle.sgf_tree.proofs.ReadingGames.{over-games}

@@ -1,8 +1,7 @@
 -- The ordered nodes of whole and unclosed games, and the last nodes below: games side by side, and a game that ends.
-use Rattle.sgf_tree.proofs.Common.{◌≡◌, ℕ, ◌+◌, List, [], ◌∷◌, ◌++◌, length, Option, None, refl, arith, append_assoc, append-nil, length-append, rules, common_steps, nodes_from, joined, UnclosedGame, whole_game, Games, no_games, game, node_count, unclosed_count, tip, own_nodes, unclosed_nodes, lasts, unclosed_lasts, add_games, length-further_nodes, length-nodes_from}
+use Rattle.sgf_tree.proofs.Common.{◌≡◌, ℕ, ◌+◌, List, [], ◌∷◌, ◌++◌, length, Option, None, refl, arith, append_assoc, append-nil, length-append, rules, common_steps, nodes_from, joined, UnclosedGame, whole_game, Games, no_games, game, node_count, unclosed_count, tip, own_nodes, unclosed_nodes, lasts, unclosed_lasts, add_games, length-further_nodes, length-nodes_from, starts_from}
 use Rattle.sgf_outline.specs.Listing.{listed, unclosed_list}
 use Rattle.sgf_outline.proofs.ListedNodes.{length-listed}
-use Rattle.sgf_outline.proofs.Starts.{starts_from}
 
 -- games after others have their nodes after theirs
 pub ordered-followed : (at : ℕ) (parent : Option ℕ) (a b : Games) → nodes_from at parent (joined a b) ≡ nodes_from at parent a ++ nodes_from (at + node_count a) parent b

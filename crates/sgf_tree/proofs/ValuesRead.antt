@@ -1,5 +1,5 @@
 -- How the values of a property are read, one after another, and what the sgf form writes for them.
-use Rattle.sgf_tree.proofs.Common.{◌≡◌, ℕ, ◌+◌, ◌<◌, ◌≤◌, List, [], ◌∷◌, ◌++◌, length, get_or, slice_range, refl, sym, ap, subst, ◌∙◌, arith, append_assoc, append-nil, rules, flat_map, flat_map-append, IsSpan, IsBracket, IsValueEnd, Started, in_value, after_value, property_of, next_state, is_white_space, Property, values, value_text, ComesTo, span-one, span-none, span-join}
+use Rattle.sgf_tree.proofs.Common.{common_steps, ◌≡◌, ℕ, ◌+◌, ◌<◌, ◌≤◌, List, [], ◌∷◌, ◌++◌, length, get_or, slice_range, refl, sym, ap, subst, ◌∙◌, arith, append_assoc, append-nil, rules, flat_map, flat_map-append, IsSpan, IsBracket, IsValueEnd, Started, in_value, after_value, property_of, next_state, is_white_space, Property, values, value_text, ComesTo, span-one, span-none, span-join}
 use Rattle.sgf_tree.proofs.Run.{run-take-step}
 use Rattle.sgf_tree.proofs.Spans.{run-white}
 use Rattle.sgf_tree.proofs.ValueEnds.{units-read}
@@ -25,12 +25,7 @@ module _ (t : List ℕ) where
   value-stands : (at end : ℕ) → IsBracket t at → IsValueEnd t (at + 1) end → slice_range t at (end + 1) ≡ value_text (slice_range t (at + 1) end)
   value-stands at end stands value =
       let rises : at + 1 ≤ end = value.rises in
-      let raw : List ℕ = slice_range t (at + 1) end in
-      let first : slice_range t at (at + 1) ≡ 91 ∷ [] = span-one t at stands.within ∙ ap (λ b. b ∷ []) stands.bracket in
-      let last : slice_range t end (end + 1) ≡ 93 ∷ [] = span-one t end value.within ∙ ap (λ b. b ∷ []) value.bracket in
-      sym (span-join t at end (end + 1) (omega arith) (omega arith))
-      ∙ ap (λ s. s ++ slice_range t end (end + 1)) (sym (span-join t at (at + 1) end (omega arith) rises) ∙ ap (λ s. s ++ raw) first)
-      ∙ ap (λ s. (91 ∷ [] ++ raw) ++ s) last
+      grind (arith, common_steps, span-join t at end (end + 1), span-join t at (at + 1) end, span-one)
 
   -- values were read, and a `[` stands at `at`
   pub record ValuesSoFar (Wrote : List ℕ → Type 0) (bracket at : ℕ) : Type 0 where
@@ -65,8 +60,7 @@ module _ (t : List ℕ) where
             let closed : ComesTo t (end + 1) (after_value n p) = run-take-step t end (in_value n name before raw) (after_value n p) value is_end.within (rw is_end.bracket) in
             let (more, named) = property-values name before raw in
             let texts : flat_map value_text before ++ slice_range t at (end + 1) ≡ flat_map value_text (values p) =
-            ap (λ s. flat_map value_text before ++ s) (value-stands at end stands is_end ∙ sym (append-nil (value_text raw)))
-            ∙ sym (flat_map-append value_text before (raw ∷ [])) ∙ ap (flat_map value_text) (sym more) in (
+            grind (arith, common_steps, value-stands at end stands is_end, append-nil (value_text raw), flat_map-append value_text before (raw ∷ [])) in (
               p,
               run-white t (end + 1) next (after_value n p) (λ b at h. rw h) white.rises white.within white.passing closed,
               named,

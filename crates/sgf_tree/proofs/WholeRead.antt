@@ -49,8 +49,7 @@ module _ (t : List ℕ) where
           unaccepted : (closed : Games) (gs : List UnclosedGame) → (at ≡ start → game_count closed ≡ 0) → length gs ≡ depth → (0 < depth) ⊎ (at ≡ start)
               → accepted (after_game (record { closed = closed; unclosed = gs })) ≡ None
           unaccepted closed (g ∷ gs) none depth_is h = unclosed-unaccepted closed g gs
-          unaccepted closed [] none depth_is (inl some) = absurd (omega arith)
-          unaccepted closed [] none depth_is (inr e) = none-accepted closed (none e)
+          unaccepted closed [] none depth_is h = grind (arith, common_steps, none-accepted)
 
       pub games-read : depth ≡ 0 → start < at → ReadsWhole keeps t
       games-read none some =

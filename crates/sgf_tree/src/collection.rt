@@ -11,8 +11,7 @@ ghost use Rattle.sgf_tree.specs.inner.Placing.{ordered_places};
 use sgf_outline::{NodeRef, Outline};
 use std::marker::Model;
 
-/// The collection that a text spells (SGF FF[4], EBNF).
-/// It refers to the text, and doesn't copy names or values.
+/// The collection that a text spells (SGF FF[4], EBNF). It refers to the text, and doesn't copy names or values.
 #[derive(Drop)]
 pub struct Collection<'a> {
     pub(crate) outline: Outline<'a>,
@@ -73,10 +72,8 @@ impl<'a> Collection<'a> {
         if self.outline.sequence_start(sequence) < i {
             return Some(i - 1);
         }
-        match self.outline.sequence_outer(sequence) {
-            Some(outer) => Some(self.outline.sequence_end(outer) - 1),
-            None => None,
-        }
+        let outer = self.outline.sequence_outer(sequence)?;
+        Some(self.outline.sequence_end(outer) - 1)
     }
 
     /// Whether no node follows node `i` on a line.

@@ -13,9 +13,8 @@ pub enum ReadFault {
     #[error("the text is longer than {MAX_LENGTH} bytes")]
     TooLong,
 
-    /// The text spells no collection (SGF FF[4], EBNF).
-    /// Its first `at` bytes are the beginning of some text of the grammar, and no more
-    /// of its bytes are. So if `at` is the text's length, the text ends too early.
+    /// The text spells no collection (SGF FF[4], EBNF). Its first `at` bytes are the beginning of some text of the grammar, and no more of
+    /// its bytes are. So if `at` is the text's length, the text ends too early.
     #[error("byte {at}: not SGF")]
     NotSgf { at: usize },
 

@@ -8,9 +8,8 @@ ghost use Rattle.sgf_outline.specs.Tree.{Games, joined};
 
 pub use sgf_properties::laws::decoded;
 
-/// One text after another. Let each of two texts spell games, and let the second not begin with a
-/// byte order mark. Then the two joined spell the games of the first followed by those of the
-/// second. The places of the second are raised by the length of the first text.
+/// One text after another. Let each of two texts spell games, and let the second not begin with a byte order mark. Then the two joined
+/// spell the games of the first followed by those of the second. The places of the second are raised by the length of the first text.
 #[tactic(auto, using(crate::proofs::Appending::spells_append))]
 pub fn append()
     ensures { (games others : Games) (text later : List ℕ) → Spells games text → Spells others later

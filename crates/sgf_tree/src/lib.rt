@@ -1,14 +1,12 @@
 //! Reads Smart Game Format (SGF FF[4]) texts.
 //!
-//! [`read`] goes over a text once. It returns the collection that the text
-//! spells, or the first byte that no text of the grammar can have there.
-//! [`read_extent`] only counts the games, nodes and leaves, which is faster and takes less memory.
+//! [`read`] goes over a text once. It returns the collection that the text spells, or the first byte that no text of the grammar can have
+//! there. [`read_extent`] only counts the games, nodes and leaves, which is faster and takes less memory.
 //!
 //! An [`Outline`] ([`read_outline`]) keeps the sequences of a collection. A sequence is the nodes between a `(` and the next parenthesis.
-//! The nodes are found on the text, one after another.
-//! A [`Collection`] numbers its nodes from 0 in file order. Besides its outline it keeps, in 4 bytes, the place of each node, and for each
-//! sequence the last node below it. The properties of a node and their raw values are read from the text again when they are asked for, one
-//! after another. Reading them takes no memory.
+//! The nodes are found on the text, one after another. A [`Collection`] numbers its nodes from 0 in file order. Besides its outline it
+//! keeps, in 4 bytes, the place of each node, and for each sequence the last node below it. The properties of a node and their raw values
+//! are read from the text again when they are asked for, one after another. Reading them takes no memory.
 //!
 //! Two crates stand below this one, and it passes on what its callers need of them. `sgf_outline` keeps the sequences and goes over their
 //! nodes. `sgf_properties` goes over the properties of a node, and decodes values.

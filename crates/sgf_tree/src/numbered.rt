@@ -1,5 +1,4 @@
-//! The nodes of a collection by their numbers: besides its sequences, the place of each node in 4 bytes, and for each sequence the last
-//! node below it.
+//! The nodes of a collection by number: besides its sequences, the place of each node in 4 bytes, and the last node below each sequence.
 
 ghost use Rattle.std.specs.Prelude.{◌≡◌, ◌+◌, ◌/◌, min, ℕ, List, IfOk, vec_capacity};
 ghost use Rattle.sgf_outline.specs.OwnNodes.{nothing};
@@ -11,8 +10,7 @@ use sgf_outline::{OwnNodes, Segment, Sequences, Visitor};
 use sgf_properties::MemoryFault;
 use std::alloc::Global;
 
-/// The most nodes that there is room for at once. Most games have fewer, and otherwise the nodes would be moved again and again
-/// while their vector grows.
+/// The most nodes that there is room for at once. Most games have fewer, and without room they would be moved each time their vector grows.
 const ROOM_FOR_NODES: usize = 128;
 
 /// The bytes of a short node, such as `;B[pd]`. Few nodes have fewer.

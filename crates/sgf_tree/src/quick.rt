@@ -2,8 +2,7 @@
 //! The rest of the crate is complete without them, so a newcomer may skip this module. Shortcuts over names and values are in `quick` of
 //! `sgf_properties`, those over moves and the properties after them in `quick` of `sgf_outline`.
 //!
-//! A shortcut stands in for a plain function, and ensures no more than that one. If it returns None or false, nothing is known: the caller
-//! then calls the plain function.
+//! A shortcut stands in for a plain function, and ensures no more. None or false says nothing: the caller then calls the plain function.
 //!
 //! | Shortcut | Stands in for |
 //! |---|---|

@@ -9,9 +9,9 @@ pub use Rattle.std.proofs.lemmas.List.FromFn.{get_or-range_with_len, length-rang
 pub use Rattle.std.proofs.lemmas.Result.{err_from_is_err_and}
 pub use Rattle.std.proofs.lemmas.Option.{get_or_from_slice_get, slice_get-get_or, slice_get-map, slice_get_past, slice_get_within}
 pub use Rattle.sgf_outline.proofs.Lists.{slice_get-left, slice_get-right}
-pub use Rattle.sgf_outline.proofs.OrderedNodes.{length-nodes_from, length-ordered_nodes}
+pub use Rattle.sgf_outline.proofs.OrderedNodes.{length-nodes_from, length-ordered_nodes, length-further_nodes, next-child, parent_at-lt, parent_at-within, parent_in-further}
 pub use Rattle.sgf_outline.proofs.Outlined.{sequence-further}
-pub use Rattle.sgf_outline.proofs.Rises.{Rises, rises-count, rises-pair}
+pub use Rattle.sgf_outline.proofs.Rises.{Rises, rises-count, rises-pair, rises-append, rises-get}
 pub use Rattle.sgf_outline.specs.FileOrder.{further_nodes, game_of, IsLeaf, node_at, nodes_at, nodes_from, ordered_nodes, OrderedNode, parent_at, place_at, PlacesRise, sequence_end, sequence_numbers, sequence_start, sequence_starts}
 pub use Rattle.sgf_outline.specs.Tree.{game, Games, leaf_count, no_games, Node, node_count, Property}
 pub use Rattle.tree_lines.specs.declared.sequence_cursor.Front.{Front}

@@ -1,8 +1,7 @@
 -- Where the sequences of a collection begin and end among its nodes, and which nodes are leaves.
-use Rattle.tree_lines.proofs.Common.{◌≡◌, ℕ, zero, suc, ◌+◌, ◌-◌, ◌<◌, ◌≤◌, inl, inr, List, length, get_or, slice_get, Some, ap, ◌∙◌, arith, rules, cases_lt, cases_eq, common_steps, get_or_past, slice_get-get_or, get_or_from_slice_get, OrderedNode, ordered_nodes, IsLeaf, sequence_starts, sequence_start, sequence_end, Games, node_count, first_of, sequence_length, HasNoLeaf, length-ordered_nodes, sequence-further}
+use Rattle.tree_lines.proofs.Common.{◌≡◌, ℕ, zero, suc, ◌+◌, ◌-◌, ◌<◌, ◌≤◌, inl, inr, List, length, get_or, slice_get, Some, ap, ◌∙◌, arith, rules, cases_lt, cases_eq, common_steps, get_or_past, slice_get-get_or, get_or_from_slice_get, OrderedNode, ordered_nodes, IsLeaf, sequence_starts, sequence_start, sequence_end, Games, node_count, first_of, sequence_length, HasNoLeaf, length-ordered_nodes, sequence-further, Rises, rises-count, rises-get, rises-pair}
 use Rattle.sgf_outline.proofs.Starts.{starts-are, first-start}
 use Rattle.sgf_outline.proofs.ListedNodes.{starts-rise}
-use Rattle.sgf_outline.proofs.Rises.{Rises, rises-count, rises-get, rises-pair}
 use Rattle.tree_lines.proofs.Lists.{element}
 
 module _ (c : Games) where

@@ -1,7 +1,5 @@
 -- The nodes of a collection are visited in file order. Each path leads to a leaf, and keeps a front of the path before it.
-use Rattle.tree_lines.proofs.Common.{◌≡◌, ℕ, ◌+◌, ◌<◌, ◌≤◌, List, [], ◌∷◌, ◌++◌, length, Option, Some, None, refl, sym, ap, ◌∙◌, arith, length-append, suc, slice_get, option_map, true, add-zero, append_assoc, append-nil, ◌≢◌, zero, ◌-◌, map, inl, inr, All, add-one, rules, range_with_len, take-append_seam, cases_eq, cases_lt, common_steps, map-append, length-map, slice_get-map, parent_at, OrderedNode, further_nodes, nodes_from, ordered_nodes, IsLeaf, Games, node_count, Node, game, no_games, first_after, Continues, numbers_before, last_number, through, node_lines, lines_from, numbered_nodes, numbered, path_of, paths, Path, leaf_of, EndsInLeaf, IsPathTo, HasNoLeaf, slice_get-left, slice_get-right}
-use Rattle.sgf_outline.proofs.OrderedNodes.{parent_at-lt, parent_at-within, length-ordered_nodes, length-further_nodes, length-nodes_from, parent_in-further, next-child}
-use Rattle.sgf_outline.proofs.Rises.{Rises, rises-append}
+use Rattle.tree_lines.proofs.Common.{◌≡◌, ℕ, ◌+◌, ◌<◌, ◌≤◌, List, [], ◌∷◌, ◌++◌, length, Option, Some, None, refl, sym, ap, ◌∙◌, arith, length-append, suc, slice_get, option_map, true, add-zero, append_assoc, append-nil, ◌≢◌, zero, ◌-◌, map, inl, inr, All, add-one, rules, range_with_len, take-append_seam, cases_eq, cases_lt, common_steps, map-append, length-map, slice_get-map, parent_at, OrderedNode, further_nodes, nodes_from, ordered_nodes, IsLeaf, Games, node_count, Node, game, no_games, first_after, Continues, numbers_before, last_number, through, node_lines, lines_from, numbered_nodes, numbered, path_of, paths, Path, leaf_of, EndsInLeaf, IsPathTo, HasNoLeaf, slice_get-left, slice_get-right, parent_at-lt, parent_at-within, length-ordered_nodes, length-further_nodes, length-nodes_from, parent_in-further, next-child, Rises, rises-append}
 use Rattle.tree_lines.specs.inner.PathTo.{top, step}
 use Rattle.tree_lines.proofs.Lists.{Each, range_append, map-through, each_weaker, each_get, element}
 use mathlib.Core.List.{map-id, map-map}

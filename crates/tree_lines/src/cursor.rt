@@ -1,7 +1,6 @@
 //! Going over the lines of play of a collection.
 
-ghost use Rattle.std.specs.Prelude.{◌≡◌, ◌+◌, ◌-◌, ◌<◌, ◌≤◌, ◌++◌, length, take, vec_len, vec_capacity, IfOk, IfErr, OnOk, OnErr};
-ghost use Rattle.std.specs.List.{range_with_len};
+ghost use Rattle.std.specs.Prelude.{◌≡◌, ◌-◌, ◌<◌, ◌≤◌, length, take, vec_capacity, IfOk, IfErr, OnOk, OnErr};
 ghost use Rattle.tree_lines.specs.Cursor.{IsLine};
 ghost use Rattle.tree_lines.specs.Following.{nodes_before, path_before};
 ghost use Rattle.tree_lines.specs.Sequences.{nodes_in};
@@ -18,7 +17,6 @@ use std::marker::Model;
 #[derive(Drop)]
 pub struct Cursor<'c, 'a> {
     sequences: SequenceCursor<'c, 'a>,
-
     /// The numbers of the nodes of the line before the cursor, the root's first; none before the first line.
     path: Vec<usize>,
 }
@@ -68,10 +66,9 @@ impl<'c, 'a> Cursor<'c, 'a> {
         Ok(Some(line_with(&self.sequences, &self.path)))
     }
 
-    /// Moves the cursor to just after the line with this place, wherever it was before. A line's
-    /// place is the offset in bytes, from 0, of the `;` of its last node.
-    ///
-    /// `NoSuchLine` comes exactly if no line has that place, unless memory was refused. After a refusal the cursor is unchanged.
+    /// Moves the cursor to just after the line with this place, wherever it was before. A line's place is the offset in bytes, from 0, of
+    /// the `;` of its last node. `NoSuchLine` comes exactly if no line has that place, unless memory was refused. After a refusal the cursor
+    /// is unchanged.
     pub fn seek_after(&mut self, place: u64) -> Result<(), SeekFault>
         ensures sought { OnOk result (IsAfterPlace place self.old self.new) }
         ensures why { IfErr result (IsSeekFault self.old.games place) }
@@ -104,11 +101,8 @@ pub fn line_with<'l>(sequences: &SequenceCursor<'_, '_>, path: &'l [usize]) -> L
 {
     // The line has a sequence, and a sequence has a node.
     let _sequences = sequences.sequences();
-    LineRef {
-        path,
-        game: sequences.game(),
-        place: sequences.place(),
-    }
+    let (game, place) = (sequences.game(), sequences.place());
+    LineRef { path, game, place }
 }
 
 /// Makes `path` the numbers of the nodes of the line before a cursor, from 0 in file order, the root's first; none before the first line.
@@ -125,18 +119,8 @@ pub fn write_path(sequences: &SequenceCursor<'_, '_>, front: Front, path: &mut V
     let count = sequences.sequences();
     for index in front.sequences..count {
         let (first, end) = sequences.numbers(index);
-        push_range(path, first, end);
-    }
-}
-
-/// Appends the numbers from `first` on and before `end`. There must be room for them.
-fn push_range(path: &mut Vec<usize>, first: usize, end: usize)
-    requires up { first ≤ end }
-    requires room { vec_len path.old + (end - first) ≤ vec_capacity path.old }
-    ensures appended { path.new.items ≡ path.old.items ++ range_with_len first (end - first) }
-    ensures room { vec_capacity path.old ≤ vec_capacity path.new }
-{
-    for number in first..end {
-        path.push(number).unwrap();
+        for number in first..end {
+            path.push(number).unwrap();
+        }
     }
 }

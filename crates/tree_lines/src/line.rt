@@ -8,7 +8,6 @@ pub struct LineRef<'l> {
     pub(crate) path: &'l [usize],
     pub(crate) game: usize,
     pub(crate) place: u64,
-
     ghost some_node: { 0 < length path.now },
 }
 

@@ -1,7 +1,5 @@
-//! Going over the lines of play of a collection, sequence by sequence.
-//!
-//! A sequence has the nodes between a `(` and the next parenthesis. A line is whole sequences, one after the other, and two lines
-//! part only between sequences. So a cursor goes over a game without variations in one step, however many nodes it has.
+//! Going over the lines of play of a collection, sequence by sequence. A sequence has the nodes between a `(` and the next parenthesis. So a
+//! cursor goes over a game without variations in one step, however many nodes it has.
 
 ghost use Rattle.std.specs.Prelude.{◌≡◌, ◌+◌, ◌-◌, ◌<◌, ◌≤◌, ◌++◌, None, Some, [], length, slice_get, option_map, IfOk, IfErr, IfSome, IfNone, OnOk, OnErr, MatchOption};
 ghost use Rattle.std.specs.List.{flat_map, range_with_len};
@@ -25,7 +23,6 @@ use std::marker::Model;
 pub struct Front {
     /// How many sequences these are.
     pub sequences: usize,
-
     /// How many nodes they have.
     pub nodes: usize,
 }
@@ -41,13 +38,10 @@ pub const NO_FRONT: Front = Front {
 #[derive(Drop)]
 pub struct SequenceCursor<'c, 'a> {
     outline: &'c Outline<'a>,
-
     /// The sequence at which the search for the next leaf begins.
     next: usize,
-
     /// The numbers of the sequences from the root to the last leaf before the sequence `next`; none before the first line.
     path: Vec<u32>,
-
     /// How many nodes these sequences have.
     nodes: usize,
 }
@@ -83,10 +77,8 @@ impl<'c, 'a> SequenceCursor<'c, 'a> {
     }
 
     /// Moves the cursor to just after the line with this place, wherever it was before. A line's place is the offset in bytes, from 0, of
-    /// the `;` of its last node.
-    ///
-    /// `NoSuchLine` comes exactly if no node has this place, or if the node isn't a leaf, unless memory was refused. After a refusal the
-    /// cursor is unchanged.
+    /// the `;` of its last node. `NoSuchLine` comes exactly if no node has this place, or if the node isn't a leaf, unless memory was
+    /// refused. After a refusal the cursor is unchanged.
     #[tactic(auto, using(crate::proofs::SequenceCursors::no_such_line, crate::proofs::SequenceCursors::found))]
     pub fn seek_after(&mut self, place: u64) -> Result<(), SeekFault>
         ensures sought { OnOk result (IsAfterPlace place self.old.at self.new.at) }
@@ -100,8 +92,7 @@ impl<'c, 'a> SequenceCursor<'c, 'a> {
             && self.outline.last_place(sequence) as u64 == place
             && self.outline.ends_in_leaf(sequence)
         {
-            self.seek_end(sequence)?;
-            return Ok(());
+            return Ok(self.seek_end(sequence)?);
         }
         Err(SeekFault::NoSuchLine { place })
     }
@@ -207,8 +198,7 @@ impl<'c, 'a> SequenceCursor<'c, 'a> {
         self.nodes
     }
 
-    /// The number that a sequence of the line before the cursor has in the collection. Both count from 0; the root's sequence is the first of
-    /// the line.
+    /// The number that a sequence of the line before the cursor has in the collection. Both count from 0; the root's sequence comes first.
     #[tactic(auto, using(crate::proofs::SequenceCursors::part_there, crate::proofs::SequenceCursors::as_many_parts, crate::proofs::SequenceCursors::sequence_nodes, crate::proofs::SequenceCursors::part_path))]
     fn sequence(&self, index: usize) -> usize
         requires { index < length self.now.ends }
@@ -298,8 +288,7 @@ fn next_end(outline: &Outline<'_>, from: usize) -> Option<usize>
     None
 }
 
-/// The first sequences of a line, up to and including the sequence `outer`; none if there is no such sequence. The line has `nodes` nodes. The
-/// search begins at the line's end.
+/// The first sequences of a line of `nodes` nodes, up to and including `outer`; none if it is None. The search begins at the line's end.
 fn front_up_to(outline: &Outline<'_>, path: &[u32], nodes: usize, outer: Option<usize>) -> Front
     requires parts { AreParts outline.now 0 (parts_of outline.now 0 path.now) }
     requires count { nodes ≡ length (part_numbers outline.now (parts_of outline.now 0 path.now)) }
@@ -308,17 +297,14 @@ fn front_up_to(outline: &Outline<'_>, path: &[u32], nodes: usize, outer: Option<
     let Some(outer) = outer else {
         return NO_FRONT;
     };
-    let mut kept = path.len();
+    let mut sequences = path.len();
     let mut nodes = nodes;
-    while kept > 0 && path[kept - 1] as usize != outer {
-        kept -= 1;
-        let passed = path[kept] as usize;
+    while sequences > 0 && path[sequences - 1] as usize != outer {
+        sequences -= 1;
+        let passed = path[sequences] as usize;
         nodes -= outline.sequence_end(passed) - outline.sequence_start(passed);
     }
-    Front {
-        sequences: kept,
-        nodes,
-    }
+    Front { sequences, nodes }
 }
 
 /// The first sequence whose last node isn't before a place; the number of sequences, if all of them are.
@@ -357,8 +343,7 @@ fn measure(outline: &Outline<'_>, last: usize) -> Front
     Front { sequences, nodes }
 }
 
-/// Writes the numbers of the sequences from the root to the end of a sequence. The line to there has the measure `line`, and `path` must have
-/// room for exactly these numbers.
+/// Writes to `path` the numbers of the sequences from the root to the end of a sequence. `line` is the measure of the line to there.
 #[tactic(auto, using(crate::proofs::SequenceStarts::fewer, crate::proofs::SequenceClimbing::fills, crate::proofs::SequenceClimbing::room_for, crate::proofs::SequenceClimbing::fill_begins))]
 fn fill_path(outline: &Outline<'_>, last: usize, line: Front, path: &mut [u32])
     requires within { last < length (sequence_starts outline.now) }

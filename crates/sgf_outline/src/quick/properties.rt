@@ -6,8 +6,7 @@ ghost use Rattle.sgf_outline.specs.Move.{IsShortProperty};
 use sgf_properties::NEAR;
 use std::simd::prelude::*;
 
-/// The `]` of the first value of a property that begins at `at`, if its name is two capitals, this value has few ordinary bytes, and the
-/// text goes on.
+/// The `]` of the first value of a property at `at`, if its name is two capitals, this value has few ordinary bytes, and the text goes on.
 #[inline(always)]
 pub fn near_property_close(text: &[u8], at: usize) -> Option<usize>
     requires { at ≤ length text.now }
@@ -17,9 +16,8 @@ pub fn near_property_close(text: &[u8], at: usize) -> Option<usize>
     if text.len() - at <= NEAR || text[at] <= b' ' {
         return None;
     }
-    // A byte stops a property such as `BL[921.325]` if it is at most so much above the least one. At first any byte but two capitals and
-    // a `[` does, and then a `]` or a `\`. This wraps: 91 comes after `Z`, and 229 bytes further is the byte before `A`. 92 is `\`, which
-    // comes after `[` and before `]`.
+    // A byte stops a property such as `BL[921.325]` if it is at most so much above the least one. At first any byte but two capitals and a
+    // `[` does, and then a `]` or a `\`. This wraps: 91 comes after `Z`, and 229 bytes further is the byte before `A`. 92 is `\`, before `]`.
     let least = u8x16::from_array([
         91, 91, 92, 92, 92, 92, 92, 92, 92, 92, 92, 92, 92, 92, 92, 92,
     ]);

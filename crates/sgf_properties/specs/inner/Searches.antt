@@ -1,4 +1,4 @@
--- Where the end of a raw value is searched for: words of private contracts in `value` and `quick/value`.
+-- Where the end of a raw value is searched for: words of private contracts in `value`, and of their proofs.
 use Rattle.std.specs.Prelude.{◌≡◌, ◌≢◌, ℕ, ◌+◌, ◌-◌, ◌*◌, ◌<◌, ◌≤◌, List, ◌∷◌, length, slice_index, drop}
 use Rattle.sgf_properties.specs.Bytes.{backslash, close_bracket}
 use Rattle.sgf_properties.specs.RawValue.{IsValue}

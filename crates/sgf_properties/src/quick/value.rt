@@ -8,8 +8,7 @@ ghost use Rattle.sgf_properties.specs.KeptLengths.{AreKeptLengths};
 use crate::value::LongValue;
 use std::simd::prelude::*;
 
-/// The number of bytes that are compared before a search is begun, because a search costs more to begin. Sizes, names and clock
-/// times are short.
+/// The number of bytes that are compared before a search is begun, which costs more. Sizes, names and clock times are short.
 pub const NEAR: usize = 16;
 
 /// The offset of the `]` that ends the raw value at `at`, if the value is short, as most are. Offsets are in bytes, from 0.
@@ -84,8 +83,7 @@ pub(crate) fn kept_end(text: &[u8], at: usize, long: &[LongValue]) -> Option<usi
     }
 }
 
-/// The offset after values such as `[pd]` which stand from the offset `at` on, as far as they are found. If a `[` is at `at`, another value
-/// begins there.
+/// The offset after values such as `[pd]` that stand from `at` on, as far as they are found. If a `[` is at `at`, another begins there.
 #[tactic(auto, using(crate::proofs::Points::points_more, crate::proofs::Points::fourth_stands))]
 pub fn past_points(text: &[u8], at: usize) -> usize
     requires { at ≤ length text.now }

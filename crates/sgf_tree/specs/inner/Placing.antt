@@ -1,5 +1,5 @@
 -- How the places of all nodes are kept, and for each sequence the last node below it.
-use Rattle.std.specs.Prelude.{◌≡◌, ℕ, ◌<◌, List, ◌++◌, length, map, All}
+use Rattle.std.specs.Prelude.{◌≡◌, ℕ, List, ◌++◌, map}
 use Rattle.sgf_outline.specs.FileOrder.{OrderedNode}
 use Rattle.sgf_outline.specs.Machine.{Stack}
 use Rattle.sgf_tree.specs.inner.GamesRead.{unclosed_nodes, unclosed_lasts}
@@ -15,5 +15,4 @@ ordered_places nodes = map (λ (ordered : OrderedNode). ordered.node.place) node
 pub record HoldsNodes (text : List ℕ) (kept : Numbered) (stack : Stack) (coming : Coming) : Type 0 where
   pub sequences : HoldsSequences text kept.sequences stack coming
   pub places_are : kept.places.items ≡ ordered_places (unclosed_nodes stack.closed stack.unclosed) ++ coming.places
-  pub places_within : All (λ place. place < length text) kept.places.items
   pub lasts_are : kept.last_nodes.items ≡ unclosed_lasts stack.closed stack.unclosed

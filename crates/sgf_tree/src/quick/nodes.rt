@@ -24,8 +24,10 @@ pub(crate) fn near_nodes<K: Visitor>(
     let place = before.end;
     let in_place = moves_in_place(text, place);
     if in_place == TWO_MOVES {
-        let first = take_whole(text, before, ShortRead::to(place + 6), visitor)?;
-        let second = take_whole(text, first, ShortRead::to(place + 12), visitor)?;
+        let end = place + 6;
+        let first = take_whole(text, before, ShortRead { text_end: end, end }, visitor)?;
+        let end = place + 12;
+        let second = take_whole(text, first, ShortRead { text_end: end, end }, visitor)?;
         return Ok(Some(second));
     }
     let Some(read) = short_properties(text, place + 1, in_place % 64 == 63) else {
@@ -47,9 +49,7 @@ fn take_whole<K: Visitor>(
     ensures taken { IfOk result (AreNodesRead (K.keeps text.now visitor.old) (K.keeps text.now visitor.new) text.now before) }
     ensures end { IfOk result (λ after. after.end ≡ properties.end) }
 {
-    let own = take_node(before.own, before.end, properties.text_end, visitor)?;
-    Ok(NodesRead {
-        own,
-        end: properties.end,
-    })
+    let ShortRead { text_end, end } = properties;
+    let own = take_node(before.own, before.end, text_end, visitor)?;
+    Ok(NodesRead { own, end })
 }

@@ -8,8 +8,7 @@ ghost use Rattle.sgf_tree.specs.inner.PropertiesRead.{AreValuesEnded, StandsIn, 
 use sgf_outline::near_property_close;
 use sgf_properties::{capital_at, near_value_end, short_name_end, skip_white_space};
 
-/// A property is read at a glance only if at least this many bytes are left: one or two letters, a `[`,
-/// the 16 bytes among which the `]` is searched for, and the byte after these.
+/// A property is read at a glance only if so many bytes are left: two letters, a `[`, 16 bytes that may have the `]`, and one after these.
 const GLANCE: usize = 20;
 
 /// How far a part of a text was read that the sgf form copies in one piece.
@@ -21,15 +20,6 @@ pub(crate) struct ShortRead {
     pub end: usize,
 }
 
-impl ShortRead {
-    /// A part that ends at `end`, with no white space after it.
-    pub(crate) fn to(end: usize) -> ShortRead
-        ensures { result ≡ record { text_end = end; end = end } }
-    {
-        ShortRead { text_end: end, end }
-    }
-}
-
 /// Reads at a glance the properties of a node, which begin at `at`: none, or, if `is_move`, a move and perhaps short properties, as in
 /// `B[pd]BL[921.325]`. Nearly all nodes are like that.
 #[inline(always)]
@@ -38,18 +28,11 @@ pub(crate) fn short_properties(text: &[u8], at: usize, is_move: bool) -> Option<
     requires move_stands { IsTrue is_move → IsMove text.now at }
     ensures { IfSome result (λ read. ArePropertiesRead (StandsIn text.now at read.text_end) text.now at read.text_end read.end) }
 {
-    if is_move {
-        let end = at + 5;
-        if end < text.len() && b' ' < text[end] && text[end] < b'A' {
-            return Some(ShortRead::to(end));
-        }
-        return after_move(text, at);
+    let end = if is_move { at + 5 } else { at };
+    if end < text.len() && b' ' < text[end] && text[end] < b'A' {
+        return Some(ShortRead { text_end: end, end });
     }
-    if at < text.len() && b' ' < text[at] && text[at] < b'A' {
-        Some(ShortRead::to(at))
-    } else {
-        None
-    }
+    if is_move { after_move(text, at) } else { None }
 }
 
 /// Reads the properties of a node that begin with a move at `at`, if those after it are short and no white space is between them.
@@ -63,14 +46,12 @@ fn after_move(text: &[u8], at: usize) -> Option<ShortRead>
     'near: while let Some(close) = near_property_close(text, end) {
         end = close + 1;
         if b' ' < text[end] && text[end] < b'A' {
-            return Some(ShortRead::to(end));
+            return Some(ShortRead { text_end: end, end });
         }
     }
-    let next = property_end(text, end)?;
-    let mut read = ShortRead {
-        text_end: end,
-        end: next,
-    };
+    let text_end = end;
+    let end = property_end(text, text_end)?;
+    let mut read = ShortRead { text_end, end };
     'properties: while capital_at(text, read.end) {
         if read.text_end < read.end {
             return None;
@@ -80,8 +61,7 @@ fn after_move(text: &[u8], at: usize) -> Option<ShortRead>
     Some(read)
 }
 
-/// Reads at a glance the property whose identifier begins at `start`, if it has a name of one or two letters
-/// and one short value. Nearly all properties are like that.
+/// Reads at a glance the property whose identifier begins at `start`, if it has a name of one or two letters and one short value, as usual.
 #[inline(always)]
 pub(crate) fn read_short_property(text: &[u8], start: usize) -> Option<ShortRead>
     requires within { start < length text.now }
@@ -93,15 +73,12 @@ pub(crate) fn read_short_property(text: &[u8], start: usize) -> Option<ShortRead
     }
     let bracket = short_name_end(text, start)?;
     let close = near_value_end(text, bracket + 1)?;
-    let end = property_end(text, close + 1)?;
-    Some(ShortRead {
-        text_end: close + 1,
-        end,
-    })
+    let text_end = close + 1;
+    let end = property_end(text, text_end)?;
+    Some(ShortRead { text_end, end })
 }
 
-/// The offset after any white space at `end`, where a property whose last value may be just before `end` ends. None if another value
-/// follows, or if the text ends.
+/// The offset after any white space at `end`, which may be the end of a property's last value. None if a value follows, or the text ends.
 #[inline(always)]
 fn property_end(text: &[u8], end: usize) -> Option<usize>
     requires { end ≤ length text.now }
@@ -114,9 +91,5 @@ fn property_end(text: &[u8], end: usize) -> Option<usize>
     } else {
         skip_white_space(text, end)
     };
-    if next < text.len() && text[next] != b'[' {
-        Some(next)
-    } else {
-        None
-    }
+    (next < text.len() && text[next] != b'[').then_some(next)
 }

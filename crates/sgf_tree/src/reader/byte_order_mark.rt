@@ -6,8 +6,7 @@ ghost use Rattle.sgf_tree.specs.inner.GamesRead.{IsByteOrderMarkRead};
 
 use crate::fault::ReadFault;
 
-/// The end of the UTF-8 byte order mark (EF BB BF) at the start of the text; 0 if the text has none. `NotSgf` if the
-/// text begins with EF, but not with the mark.
+/// The end of the UTF-8 byte order mark (EF BB BF) of a text; 0 if it has none. `NotSgf` if it begins with EF, but not with the mark.
 #[tactic(auto, using(crate::proofs::ByteOrderMark::mark_none, crate::proofs::ByteOrderMark::mark_read, crate::proofs::ByteOrderMark::first_faulty, crate::proofs::ByteOrderMark::second_faulty))]
 pub(crate) fn byte_order_mark_end(text: &[u8]) -> Result<usize, ReadFault>
     ensures read { IfOk result (IsByteOrderMarkRead text.now) }

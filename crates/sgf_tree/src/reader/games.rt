@@ -13,12 +13,11 @@ ghost use Rattle.sgf_tree.specs.inner.NodesRead.{BeginsNode, AreNodesRead, IsFau
 use crate::fault::ReadFault;
 use crate::quick::nodes::near_nodes;
 use crate::reader::own_nodes::{NodesRead, take_node};
-use crate::reader::properties::read_properties;
+use crate::reader::properties::{PartRead, read_properties};
 use sgf_outline::{MAX_LENGTH, OwnNodes, Segment, Visitor};
 use sgf_properties::{LongValue, skip_white_space, stands_at};
 
-/// Reads all games, and tells `visitor` what comes: Collection = GameTree { GameTree }, and GameTree = `(` Sequence { GameTree } `)`. The
-/// first `(` is expected at `at`.
+/// Reads all games from `at` on, and tells `visitor` of them: Collection = GameTree { GameTree }, GameTree = `(` Sequence { GameTree } `)`.
 pub(crate) fn read_games<K: Visitor>(
     text: &[u8],
     at: usize,
@@ -63,8 +62,7 @@ pub(crate) fn read_games<K: Visitor>(
     Ok(())
 }
 
-/// Reads the own nodes of the game whose `(` is just before `at`: Sequence = Node { Node }. Returns the offset after the nodes and the
-/// white space after them.
+/// Reads the own nodes of the game whose `(` is just before `at`: Sequence = Node { Node }. Returns the offset after them and white space.
 fn read_sequence<K: Visitor>(
     text: &[u8],
     at: usize,
@@ -82,19 +80,14 @@ fn read_sequence<K: Visitor>(
     ensures fault { IfErr result (IsFaultInOpened (K.keeps text.now visitor.old) text.now at) }
     ensures long { OnOk result (AreKeptLengths text.now long.new.items) }
 {
-    let first = skip_white_space(text, at);
-    let mut read = NodesRead {
-        own: OwnNodes {
-            first,
-            last: first,
-            count: 0,
-            segment: Segment {
-                start: first,
-                end: first,
-            },
-        },
-        end: first,
+    let start = skip_white_space(text, at);
+    let own = OwnNodes {
+        first: start,
+        last: start,
+        count: 0,
+        segment: Segment { start, end: start },
     };
+    let mut read = NodesRead { own, end: start };
     'nodes: while stands_at(text, read.end, b';') {
         read = read_node(text, read, visitor, long)?;
     }
@@ -125,11 +118,7 @@ fn read_node<K: Visitor>(
     }
     let own = take_node(before.own, before.end, before.end + 1, visitor)?;
     let properties = read_properties(text, own.segment, visitor, long)?;
-    Ok(NodesRead {
-        own: OwnNodes {
-            segment: properties.segment,
-            ..own
-        },
-        end: properties.end,
-    })
+    let PartRead { segment, end } = properties;
+    let own = OwnNodes { segment, ..own };
+    Ok(NodesRead { own, end })
 }

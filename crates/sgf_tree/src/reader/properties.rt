@@ -7,7 +7,7 @@ ghost use Rattle.sgf_tree.specs.inner.PropertiesRead.{BeginsProperty, IsNameCopi
 ghost use Rattle.sgf_properties.specs.KeptLengths.{AreKeptLengths};
 
 use crate::fault::ReadFault;
-use crate::quick::properties::read_short_property;
+use crate::quick::properties::{ShortRead, read_short_property};
 use crate::reader::value::read_value;
 use sgf_outline::{MAX_LENGTH, Segment, Visitor};
 use sgf_properties::{
@@ -38,17 +38,13 @@ pub(crate) fn read_properties<K: Visitor>(
     ensures fault { IfErr result (IsFaultInNode text.now segment.end) }
     ensures kept { OnOk result (AreKeptLengths text.now long.new.items) }
 {
-    let mut read = PartRead {
-        segment,
-        end: skip_white_space(text, segment.end),
-    };
+    let end = skip_white_space(text, segment.end);
+    let mut read = PartRead { segment, end };
     'properties: while capital_at(text, read.end) {
         if let Some(property) = read_short_property(text, read.end) {
-            let segment = read.segment.then(read.end, property.text_end, visitor)?;
-            read = PartRead {
-                segment,
-                end: property.end,
-            };
+            let ShortRead { text_end, end } = property;
+            let segment = read.segment.then(read.end, text_end, visitor)?;
+            read = PartRead { segment, end };
         } else {
             read = read_property(text, read, visitor, long)?;
         }
@@ -72,12 +68,11 @@ fn read_property<K: Visitor>(
     ensures fault { IfErr result (IsFaultInProperty text.now before.end) }
     ensures kept { OnOk result (AreKeptLengths text.now long.new.items) }
 {
-    let name = read_name(text, before, visitor)?;
-    let mut read = name;
+    let mut read = read_name(text, before, visitor)?;
     'values: loop {
-        let text_end = read_value(text, read.end, long)? + 1;
-        let segment = read.segment.then(read.end, text_end, visitor)?;
-        let end = skip_white_space(text, text_end);
+        let value_end = read_value(text, read.end, long)? + 1;
+        let segment = read.segment.then(read.end, value_end, visitor)?;
+        let end = skip_white_space(text, value_end);
         read = PartRead { segment, end };
         if !stands_at(text, end, b'[') {
             return Ok(read);

@@ -1,5 +1,4 @@
-//! Reading raw values (SGF FF[4], PropValue).
-//! The end of a long value is searched for once, when the value is read. Its length is then kept for later steps over it.
+//! Reading raw values (SGF FF[4], PropValue). The end of a long one is searched for once: its length is kept for later steps over it.
 
 ghost use Rattle.std.specs.Prelude.{IfOk, IfErr};
 ghost use Rattle.sgf_properties.specs.Offsets.{IsBracket};
@@ -8,8 +7,7 @@ ghost use Rattle.sgf_tree.specs.inner.PropertiesRead.{MayReadValue, AreValuesRea
 use crate::fault::ReadFault;
 use sgf_properties::{LongValue, far_value_end, past_points, short_value_end};
 
-/// The least length of a value whose length is kept. Nearly all comments are shorter, so few
-/// lengths are kept. A search over this many bytes costs more than looking up a length.
+/// The least length of a value whose length is kept. A search over this costs more than a look-up. Nearly all comments are shorter.
 const LONG: usize = 4096;
 
 /// Reads the value whose `[` is at `at`, and keeps its length if the value is long. Returns the offset of its `]`.
@@ -24,21 +22,16 @@ pub(crate) fn read_value(
     ensures read { IfOk result (AreValuesRead text.now at long.new.items) }
     ensures fault { IfErr result (IsFaultInValues text.now at) }
 {
-    let last = past_points(text, at);
-    let start = last + 1;
+    let start = past_points(text, at) + 1;
     if let Some(end) = short_value_end(text, start) {
         return Ok(end);
     }
     let Some(end) = far_value_end(text, start) else {
         return Err(ReadFault::NotSgf { at: text.len() });
     };
-    let bytes = end - start;
-    if bytes >= LONG {
-        let value = LongValue {
-            left: (text.len() - start) as u32,
-            bytes: bytes as u32,
-        };
-        if long.push(value).is_err() {
+    if end - start >= LONG {
+        let (left, bytes) = ((text.len() - start) as u32, (end - start) as u32);
+        if long.push(LongValue { left, bytes }).is_err() {
             return Err(ReadFault::Memory);
         }
     }

@@ -14,4 +14,4 @@ invariant_of-result c = record { some_node = some_node (goal.at.invariant_of-res
 
 pub returns : goal.returns
 returns c =
-    line_is c.args.sequences.now.at _ c.requires.some (some_node (goal.at.returns c).After-sequences-sequences) c.requires.path c.game.ensures c.place.ensures
+    line_is c.args.sequences.now.at _ c.requires.some (some_node (goal.at.returns c).After-sequences-sequences) c.requires.path c.game-game.ensures c.place-place.ensures

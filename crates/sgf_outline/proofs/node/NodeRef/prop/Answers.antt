@@ -1,5 +1,4 @@
-use Rattle.sgf_outline.proofs.Common.{ap, slice_get, ◌∙◌, sym, Property}
-use Rattle.sgf_properties.proofs.Taking.{taken-at}
+use Rattle.sgf_outline.proofs.Common.{ap, slice_get, ◌∙◌, sym, Property, taken-at}
 use Rattle.sgf_outline.proofs.node.NodeRef.prop.Goals as goal
 
 pub returns : goal.returns

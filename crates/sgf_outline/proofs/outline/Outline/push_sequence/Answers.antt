@@ -18,9 +18,7 @@ pub slice_bounds-written-end : goal.slice_bounds-written-end
 slice_bounds-written-end c = (entry (goal.at.slice_bounds-written-end c).After-index-sequence).in_text (sym c.is_written.ensures ∙ c.if-is_written.true)
 
 pub returns-then-is_written-clause-appended : goal.returns-then-is_written-clause-appended
-returns-then-is_written-clause-appended c =
-    let e = entry (goal.at.returns-then-is_written-clause-appended c).After-index-sequence in
-    search (rules, entry)
+returns-then-is_written-clause-appended c = search (rules, entry)
 
 pub segments-init : goal.segments-init
 segments-init c = record {
@@ -58,8 +56,6 @@ returns-then-is_last-clause-appended c =
 pub segments-preserved : goal.segments-preserved
 segments-preserved c =
     let (rest, is, last, next) = first (goal.at.segments-preserved c).After-index-segment in
-    let segment = c.index-segment.result.now in
-    let out = c.segments.out.items in
     search (rules, first, slice_range, append_assoc)
 
 pub returns-then-is_err-clause-unchanged : goal.returns-then-is_err-clause-unchanged

@@ -5,6 +5,5 @@ use Rattle.sgf_outline.proofs.outline.Outline.sequence_of.Goals as goal
 
 pub halves-init : goal.halves-init
 halves-init c =
-    let count = c.sequences-high.ensures.count in
     let first = starts-first c.args.self.now c.args.number c.requires in
     search (rules, starts-first, get_or_past)

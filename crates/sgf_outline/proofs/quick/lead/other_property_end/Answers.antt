@@ -1,5 +1,4 @@
-use Rattle.sgf_outline.proofs.Common.{◌≢◌, List, ℕ, [], ◌∷◌, ◌+◌, ◌∙◌, All, get_or, sym, arith, common_steps, All-more}
-use Rattle.std.proofs.lemmas.List.{take_all}
+use Rattle.sgf_outline.proofs.Common.{◌≢◌, List, ℕ, [], ◌∷◌, ◌+◌, ◌∙◌, All, get_or, sym, arith, common_steps, All-more, take_all}
 use Rattle.std.specs.Cmp.Lexicographic.{other_text}
 use Rattle.sgf_outline.proofs.Leading.{other-property}
 use Rattle.sgf_outline.proofs.ShortBytes.{two-value}

@@ -1,5 +1,4 @@
-use Rattle.sgf_outline.proofs.Common.{◌≡◌, ◌-◌, ◌∙◌, ◌∷◌, drop, refl, sym, ap, subst, take_rest, arith, common_steps, properties_in, IsSpan, is_white_space, kept-drop}
-use Rattle.sgf_properties.proofs.Iterating.{no-property, run-drop}
+use Rattle.sgf_outline.proofs.Common.{◌≡◌, ◌-◌, ◌∙◌, ◌∷◌, drop, refl, sym, ap, subst, take_rest, arith, common_steps, properties_in, IsSpan, is_white_space, kept-drop, no-property, run-drop}
 use Rattle.sgf_outline.proofs.Traversing.{past-property}
 use Rattle.sgf_outline.proofs.traversal.SequenceNodes.next_property.Goals as goal
 

@@ -1,5 +1,4 @@
-use Rattle.sgf_tree.proofs.Common.{◌≡◌, ◌∙◌, ◌+◌, ◌-◌, ℕ, ap, sym, arith, game_of, sequence_start}
-use Rattle.sgf_outline.proofs.Outlined.{same-game}
+use Rattle.sgf_tree.proofs.Common.{◌≡◌, ◌∙◌, ◌+◌, ◌-◌, ℕ, ap, sym, arith, common_steps, game_of, sequence_start, same-game}
 use Rattle.sgf_tree.proofs.collection.Collection.game_of.Goals as goal
 
 pub returns : goal.returns
@@ -8,5 +7,4 @@ returns c =
     let k = c.sequence_of.result in
     let in_sequence = c.sequence_of.ensures in
     let d : ℕ = c.args.i - sequence_start g k in
-    let e : sequence_start g k + d ≡ c.args.i = omega (arith, in_sequence.start) in
-    c.game_of.ensures ∙ sym (same-game g k in_sequence.within d (omega (arith, e, in_sequence.end))) ∙ ap (game_of g) e ∙ ap (λ h. game_of h c.args.i) c.self.view_is
+    grind (arith, common_steps, same-game g k in_sequence.within d)

@@ -1,6 +1,5 @@
-use Rattle.sgf_tree.proofs.Common.{◌≡◌, ◌≤◌, ◌<◌, ◌+◌, get_or, length, refl, ap, subst, arith, slice_get, Some, common_steps, slice_get_read, IsLastBelow, node_count, lasts}
+use Rattle.sgf_tree.proofs.Common.{◌≡◌, ◌≤◌, ◌<◌, ◌+◌, get_or, length, refl, ap, subst, arith, slice_get, Some, common_steps, slice_get_read, IsLastBelow, node_count, lasts, starts-are}
 use Rattle.sgf_tree.proofs.LastBelow.{lasts-below}
-use Rattle.sgf_outline.proofs.Starts.{starts-are}
 use Rattle.sgf_tree.proofs.Stacks.{length-lasts}
 use Rattle.sgf_tree.proofs.collection.Collection.last_below.Goals as goal
 

@@ -1,9 +1,8 @@
-use Rattle.sgf_tree.proofs.Common.{common_steps, arith}
-use Rattle.sgf_outline.proofs.Outlined.{sequence-further}
+use Rattle.sgf_tree.proofs.Common.{common_steps, arith, sequence-further}
 use Rattle.sgf_tree.proofs.collection.Collection.parent.Goals as goal
 
 pub returns-then-sequence_start-i : goal.returns-then-sequence_start-i
 returns-then-sequence_start-i c = grind (arith, common_steps, sequence-further)
 
-pub returns-in-Some : goal.returns-in-Some
-returns-in-Some c = grind (arith, common_steps)
+pub returns : goal.returns
+returns c = grind (arith, common_steps)

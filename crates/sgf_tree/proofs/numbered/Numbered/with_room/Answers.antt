@@ -1,10 +1,8 @@
-use Rattle.std.proofs.Common.{arith}
 use Rattle.sgf_tree.proofs.numbered.Numbered.with_room.Goals as goal
 
 pub returns-clause-none : goal.returns-clause-none
 returns-clause-none c = λ text. record {
   sequences = c.in_ok-with_room.ensures text;
   places_are = c.in_ok-with_capacity.ensures.items;
-  places_within = rw c.in_ok-with_capacity.ensures.items (λ i default lt. absurd (omega arith));
   lasts_are = c.new.ensures.items;
 }

@@ -9,7 +9,6 @@ returns c = record {
     places_are =
         c.in_ok-push.ensures.items ∙ ap (λ places. places ++ c.args.place ∷ []) holds.places_are
         ∙ append_assoc (ordered_places (unclosed_nodes k.closed k.unclosed)) coming.places (c.args.place ∷ []);
-    places_within = search rules;
     lasts_are = holds.lasts_are;
   };
 }

@@ -7,7 +7,6 @@ returns c = record {
       (λ kept text k coming holds within. record {
         sequences = kept text k coming holds.sequences within;
         places_are = holds.places_are;
-        places_within = holds.places_within;
         lasts_are = holds.lasts_are;
       })
       c.segment.ensures.kept;

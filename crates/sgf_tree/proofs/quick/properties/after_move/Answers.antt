@@ -13,10 +13,8 @@ near-preserved c =
 pub returns-then-text-end-lt65 : goal.returns-then-text-end-lt65
 returns-then-text-end-lt65 c =
     let t = c.args.text.now in
-    let end = c.in-Some.close + 1 in
-    rw c.to.ensures
-    (read-to-end t c.args.at end (read-to-more t c.args.at c.near.end c.near.invariant.so_far c.in-Some.close c.in-Some.ensures.short)
-    (record { within = c.in-Some.ensures.goes_on; above = c.if-text-end-gt32.true; below = c.if-text-end-lt65.true }))
+    read-to-end t c.args.at (c.in-Some.close + 1) (read-to-more t c.args.at c.near.end c.near.invariant.so_far c.in-Some.close c.in-Some.ensures.short)
+    (record { within = c.in-Some.ensures.goes_on; above = c.if-text-end-gt32.true; below = c.if-text-end-lt65.true })
 
 pub properties-preserved : goal.properties-preserved
 properties-preserved c =

@@ -1,4 +1,4 @@
-use Rattle.sgf_tree.proofs.Common.{◌≡◌, ◌<◌, ◌⊎◌, inl, inr, arith, common_steps, err_from_is_err_and}
+use Rattle.sgf_tree.proofs.Common.{rules, ◌≡◌, ◌<◌, ◌⊎◌, inl, inr, arith, common_steps, err_from_is_err_and}
 use Rattle.sgf_tree.proofs.GamesLoop.{games-unclosed, games-faulty, depth-within}
 use Rattle.sgf_tree.proofs.WholeRead.{games-opened, unopened-faulty, games-closed, games-faulty-end, games-read}
 use Rattle.sgf_tree.proofs.reader.games.read_games.Goals as goal
@@ -32,17 +32,13 @@ games-preserved-in-40 g c =
     }
 
 pub returns-then-depth-eq0-clause-fault : goal.returns-then-depth-eq0-clause-fault
-returns-then-depth-eq0-clause-fault g c =
-    let t = c.args.text.now in
-    unopened-faulty t (g.K.Visitor.keeps t c.games.visitor) c.args.at c.games.at c.games.depth c.games.invariant.so_far c.games-test.true c.in-41.is c.if-depth-eq0.true
+returns-then-depth-eq0-clause-fault g c = search (rules, unopened-faulty)
 
 pub games-preserved : goal.games-preserved
 games-preserved g c = grind (arith, common_steps, games-closed)
 
 pub returns-in_default-clause-fault : goal.returns-in_default-clause-fault
-returns-in_default-clause-fault g c =
-    let so_far = c.games.invariant.so_far in
-    games-faulty c.args.text.now c.games.at so_far.stack so_far.stands c.games-test.true (λ e. omega arith) (λ e. omega arith)
+returns-in_default-clause-fault g c = search (rules, games-faulty)
 
 pub returns-then-depth-gt0-clause-fault : goal.returns-then-depth-gt0-clause-fault
 returns-then-depth-gt0-clause-fault g c =

@@ -12,7 +12,8 @@ properties-preserved-in-Some g c =
     let keeps = g.K.Visitor.keeps t in
     let segment = c.args.segment in
     let before = c.properties.read in
-    let property = c.in-Some.property in
+    let text_end = c.in-Some.property.text_end in
+    let end = c.in-Some.property.end in
     let next = c.in_ok-segment.segment in
     let (within, capital) = c.capital_at.ensures.stands c.properties-test.true in
     let All = Copies (keeps c.args.visitor.now) (keeps c.then.new.visitor) t segment next in
@@ -20,9 +21,9 @@ properties-preserved-in-Some g c =
     record {
       rises = c.in_ok-segment.ensures.rises;
       so_far =
-          subst (λ i. ReadSoFar All t segment.end i property.end) (sym c.in_ok-segment.ensures.end)
-          (so-far-more t segment.end (Copies (keeps c.args.visitor.now) (keeps c.properties.visitor) t segment before.segment) (StandsIn t before.end property.text_end) All
-          before.segment.end before.end property.text_end property.end c.properties.invariant.so_far within capital c.in-Some.ensures
+          subst (λ i. ReadSoFar All t segment.end i end) (sym c.in_ok-segment.ensures.end)
+          (so-far-more t segment.end (Copies (keeps c.args.visitor.now) (keeps c.properties.visitor) t segment before.segment) (StandsIn t before.end text_end) All
+          before.segment.end before.end text_end end c.properties.invariant.so_far within capital c.in-Some.ensures
           (λ u v first same.
           copies-then (keeps c.args.visitor.now) (keeps c.properties.visitor) (keeps c.then.new.visitor) t segment before.segment next u v first
           (subst (Copies (keeps c.properties.visitor) (keeps c.then.new.visitor) t before.segment next) same copied)));
