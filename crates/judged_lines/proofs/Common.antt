@@ -1,7 +1,7 @@
 -- What the proofs of this crate import together: words of specs, types, and lemmas of the standard library.
 pub use Rattle.std.specs.Option.{option_or}
-pub use Rattle.std.proofs.Common.{[], add-one, All, ap, append-nil, append_assoc, arith, Bool, Bor, codes, drop, Err, false, flat_map, fold, inl, inr, IsErr, IsSome, length, length-append, length-drop, length-take, length-take-le, List, map, None, Ok, Option, option_and_then, option_copied, option_map, refl, Result, rules, slice_get, Some, subst, suc, sym, take, take-append-drop, take_all, true, zero, ℕ, ◌++◌, ◌+◌, ◌-◌, ◌<◌, ◌∙◌, ◌∷◌, ◌≡◌, ◌≤◌, ◌⊎◌}
-pub use Rattle.std.proofs.lemmas.Bool.{cases_Bool, cases_eq, cases_lt, false_from_ne_true, lt-leb}
+pub use Rattle.std.proofs.Common.{[], add-one, All, ap, append-nil, append_assoc, arith, Bool, Bor, codes, drop, Err, false, flat_map, fold, inl, inr, IsErr, IsSome, length, length-append, length-drop, length-take, length-take-le, List, map, None, Ok, Option, option_and_then, option_copied, option_map, refl, Result, rules, slice_get, Some, subst, suc, sym, take, take-append-drop, take_all, true, zero, ℕ, ◌++◌, ◌+◌, ◌-◌, ◌<◌, ◌∙◌, ◌∷◌, ◌≡◌, ◌≤◌, ◌⊎◌, IfOk, IsErrOf, OnErr, OnOk, eq-eqb, eqb, eqb-true, filter, if◌then◌else◌, is_some, le-leb, min, ne_eqb, take-take, unwrap_or, ◌||◌, ◌↔◌}
+pub use Rattle.std.proofs.lemmas.Bool.{cases_Bool, cases_eq, cases_lt, false_from_ne_true, lt-leb, false≢true}
 pub use Rattle.std.proofs.lemmas.Grind.{common_steps, flat_map-append}
 pub use Rattle.std.proofs.lemmas.List.{length-map, map-append, nil_from_length, take-append-le, take-map}
 pub use Rattle.std.proofs.lemmas.List.Elements.{All-append, All-filter, All-from_recursion, All-head, All-nil, All-tail, filter-append, filter_passes, recursion_from_All}
@@ -31,11 +31,8 @@ pub use Rattle.go_board.specs.State.{followed_by, HadSameBoardSince, starting, S
 pub use Rattle.judged_lines.specs.declared.judging.contents.Moves.TheVariants.{Nothing, Several}
 pub use Rattle.judged_lines.specs.declared.judging.contents.Setup.TheVariants.{Meant}
 pub use Rattle.judged_lines.specs.declared.judging.step.LegalStep.{LegalStep}
-pub use Rattle.judged_lines.specs.declared.over_lines.Before.{Before}
-pub use Rattle.judged_lines.specs.declared.over_lines.Before.TheVariants.{Held, Refused, Unheld}
-pub use Rattle.judged_lines.specs.declared.verdict.Verdict.{Verdict}
 pub use Rattle.judged_lines.specs.Follower.{FollowerState, lines_judged}
-pub use Rattle.judged_lines.specs.GoingOn.{AreHeld, HasFront, HasPlays, index_by, IsHeldOf, PlaysLine, StandsBy}
+pub use Rattle.judged_lines.specs.GoingOn.{Held, Refused, Unheld, Before, AreHeld, HasFront, HasPlays, index_by, IsHeldOf, PlaysLine, StandsBy}
 pub use Rattle.judged_lines.specs.JudgedGames.{bad_size, board, game_kind, GameKind, not_go, root_properties}
 pub use Rattle.judged_lines.specs.Judgement.{after, begun_game, board_in, IsEffectBy, IsLegalStep, IsStepOf, judged, Judgement, judging, unjudged}
 pub use Rattle.judged_lines.specs.Keeping.{fresh_plays, HasJudged, HoldsLine, HoldsVerdict, PlaysUpTo}
@@ -43,9 +40,15 @@ pub use Rattle.judged_lines.specs.NodeContents.{first_value, Move, moves, moves_
 pub use Rattle.judged_lines.specs.NodeValues.{last_player, operations, player_value}
 pub use Rattle.judged_lines.specs.Plays.{all_judged_places, differ, different, judged_places, node_places, places_of, touched_places}
 pub use Rattle.judged_lines.specs.Step.{move_step, setup_step, step, step_by, turn_step}
-pub use Rattle.judged_lines.specs.Verdict.{IsVerdictAt, judged_nodes, judged_on, score_in, verdict, verdict_at, verdict_by, verdict_of}
+pub use Rattle.judged_lines.specs.Verdict.{BadSize, NotGo, Verdict, IsVerdictAt, judged_nodes, judged_on, score_in, verdict, verdict_at, verdict_by, verdict_of}
 pub use Rattle.judged_lines.specs.Walk.{before_root, HasIllegal, IllegalNode, IsAfter, judged_by, legal_on, LegalNode, next, no_node, one_node, Walk, walk}
-pub use Rattle.judged_lines.specs.inner.Gathered.{AddsRectangles, AreMoves, ComesAs, HoldsAlone, IsGathered, IsSetup, kind_of, setup_with_player, setup_with_stones}
+pub use Rattle.judged_lines.specs.inner.Gathered.{AddsRectangles, AreMoves, ComesAs, HoldsAlone, IsGathered, IsSetup, kind_of, setup_with}
 pub use Rattle.judged_lines.specs.inner.Judging.{back, back_from, back_to, IsDecided, IsScoreAt, IsScoreOf, IsStepFrom, IsStepped, IsUndecided, judgement_of, Judging, legal_by, state_after, state_of, verdict_in}
-pub use Rattle.judged_lines.specs.declared.verdict.Verdict.TheVariants.{BadSize, NotGo}
 pub use Rattle.judged_lines.specs.inner.Keeping.{WentOn}
+pub use Rattle.std.proofs.lemmas.List.Folds.{find-append, list_any-append}
+pub use Rattle.tree_lines.proofs.LineNodes.{as_long, as_many, line_is, named_in, some_before}
+pub use Rattle.std.proofs.Math.Seq.{drop-append_seam, take-append_seam}
+pub use Rattle.tree_lines.proofs.Fronts.{front_kept, next_part, none_after, rises_through}
+pub use Rattle.tree_lines.proofs.CursorStates.{IsNextLine, before, next_line}
+pub use Rattle.tree_lines.proofs.Named.{length-paths, line_at, place_of_node}
+pub use Rattle.tree_lines.proofs.SequenceCursors.{some_end, some_ends}

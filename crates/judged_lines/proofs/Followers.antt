@@ -1,6 +1,5 @@
 -- A follower goes on by a line: the verdict that it gives, and the nodes that it plays for the lines of its streak.
-use Rattle.std.proofs.Common.{◌≡◌, ℕ, ◌+◌, ◌-◌, ◌<◌, ◌≤◌, length, take, drop, slice_get, Some, sym, ap, ◌∙◌, arith, rules, option_map, take-take}
-use Rattle.judged_lines.proofs.Common.{slice_get_within, PlacesRise, node_count, CursorState, advanced, nodes_of, line_before, nodes_before, lines, Before, Held, Verdict, FollowerState, HasPlays, StandsBy, index_by, all_judged_places, verdict, verdict_of, judged_nodes}
+use Rattle.judged_lines.proofs.Common.{slice_get_within, PlacesRise, node_count, CursorState, advanced, nodes_of, line_before, nodes_before, lines, Before, Held, Verdict, FollowerState, HasPlays, StandsBy, index_by, all_judged_places, verdict, verdict_of, judged_nodes, ◌≡◌, ℕ, ◌+◌, ◌-◌, ◌<◌, ◌≤◌, length, take, drop, slice_get, Some, sym, ap, ◌∙◌, arith, rules, option_map, take-take}
 use Rattle.judged_lines.specs.GoingOn.{next_by}
 use Rattle.judged_lines.specs.inner.Followers.{state_by, Follows}
 use Rattle.judged_lines.proofs.Keeping.{line_next}

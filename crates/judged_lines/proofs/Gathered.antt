@@ -1,6 +1,7 @@
 -- What properties hold, gathered one after the other.
-use Rattle.judged_lines.proofs.Common.{◌≡◌, ◌<◌, ℕ, Bor, Bool, Option, Some, None, List, [], ◌∷◌, ◌++◌, map, length, All, refl, sym, ap, subst, ◌∙◌, append_assoc, arith, append-nil, length-append, rules, option_map, option_and_then, option_copied, codes, flat_map, cases_Bool, false_from_ne_true, common_steps, flat_map-append, map-append, All-nil, All-head, All-tail, NextNode, IsTakenOff, Property, Node, values, lone_property, told_property, IsRectOn, rect_value, SetupOp, Colour, Several, moves_in, moves_by, stones_in, stones_of, players_in, first_value, player_value, operations, last_player, kind_of, AreMoves, IsSetup, setup_with_stones, setup_with_player, AddsRectangles, HoldsAlone, IsGathered, ComesAs, option_or, Move, Stones}
-use Rattle.std.proofs.lemmas.List.Folds.{find-append}
+use Rattle.judged_lines.proofs.Common.{◌≡◌, ◌<◌, ℕ, Bor, Bool, Option, Some, None, List, [], ◌∷◌, ◌++◌, map, length, All, refl, sym, ap, subst, ◌∙◌, append_assoc, arith, append-nil, length-append, rules, option_map, option_and_then, option_copied, codes, flat_map, cases_Bool, false_from_ne_true, common_steps, flat_map-append, map-append, All-nil, All-head, All-tail, NextNode, IsTakenOff, Property, Node, values, lone_property, told_property, IsRectOn, rect_value, SetupOp, Colour, Several, moves_in, moves_by, stones_in, stones_of, players_in, first_value, player_value, operations, last_player, kind_of, AreMoves, IsSetup, setup_with, AddsRectangles, HoldsAlone, IsGathered, ComesAs, option_or, Move, Stones, find-append}
+use Rattle.std.specs.Prelude.{IfSome, IsSome}
+use Rattle.std.specs.Bool.{then_some}
 use Rattle.std.proofs.lemmas.Slice.Eq.{bytes_eq-Decides}
 use Rattle.sgf_outline.specs.declared.traversal.NextNode.TheVariants.{Led, Empty as EmptyNode, Unread}
 use Rattle.sgf_outline.specs.Lead.{IsLedBy}
@@ -49,14 +50,14 @@ later_player last raw left all o e is = ap (last_player (Some last)) e ∙ ap (o
 
 -- stones more
 module _ (side : ℕ) (ops new : List SetupOp) (stones more : List Stones) (players : List (List ℕ)) (some : 0 < length more) where
-  pub more_stones : (setup : Setup) (good : Bool) → IsSetup side setup ops stones players → AddsRectangles side more ops new good → IsSetup side (setup_with_stones setup good) new (stones ++ more) players
+  pub more_stones : (setup : Setup) (good : Bool) → IsSetup side setup ops stones players → AddsRectangles side more ops new good → IsSetup side (setup_with setup (then_some good None)) new (stones ++ more) players
   more_stones setup good known known2 = search (rules, length-append, operations-append, both_none)
 
 -- players more
 module _ (side : ℕ) (ops : List SetupOp) (stones : List Stones) (players more : List (List ℕ)) (some : 0 < length more) where
-  pub more_players : (setup : Setup) (last : Option Colour) → IsSetup side setup ops stones players → ((before : Option Colour) → last_player before more ≡ option_map Some last)
-      → IsSetup side (setup_with_player setup last) ops stones (players ++ more)
-  more_players setup last known known2 = search (rules, last_player-append, length-append)
+  pub more_players : (setup : Setup) (last : Option (Option Colour)) → IsSetup side setup ops stones players → ((before : Option Colour) → last_player before more ≡ last) → IfSome last IsSome
+      → IsSetup side (setup_with setup last) ops stones (players ++ more)
+  more_players setup last known known2 some_last = search (rules, last_player-append, length-append)
 
 -- what a property holds
 record Held : Type 0 where
@@ -110,17 +111,17 @@ module _ (side : ℕ) (ps : List Property) (ops : List SetupOp) (old : Contents)
   gathered_moves k moves is are = gathered_more (Some (move_kind k)) ops (record old { moves = moves }) is are setup_stays (no_comment (option_copied old.comment)) h.on_board
 
   pub gathered_stones : (cell : Cell) (new_ops : List SetupOp) (good : Bool) → kind_of p ≡ Some (stones_kind cell) → AddsRectangles side (stones_of cell p) ops new_ops good
-      → IsGathered side (ps ++ p ∷ []) new_ops (record old { setup = setup_with_stones old.setup good })
+      → IsGathered side (ps ++ p ∷ []) new_ops (record old { setup = setup_with old.setup (then_some good None) })
   gathered_stones cell new_ops good is adds =
-      gathered_more (Some (stones_kind cell)) new_ops (record old { setup = setup_with_stones old.setup good }) is moves_stay
+      gathered_more (Some (stones_kind cell)) new_ops (record old { setup = setup_with old.setup (then_some good None) }) is moves_stay
       (rw (append-nil (flat_map players_in ps)) (more_stones side ops new_ops (flat_map stones_in ps) (stones_of cell p) (flat_map players_in ps) (omega arith) old.setup good h.setup_is adds))
       (no_comment (option_copied old.comment)) (adds.on_board h.on_board)
 
-  pub gathered_players : (last : Option Colour) → kind_of p ≡ Some player_kind → ((before : Option Colour) → last_player before (values p) ≡ option_map Some last)
-      → IsGathered side (ps ++ p ∷ []) ops (record old { setup = setup_with_player old.setup last })
-  gathered_players last is told =
-      gathered_more (Some player_kind) ops (record old { setup = setup_with_player old.setup last }) is moves_stay
-      (rw (append-nil (flat_map stones_in ps)) (more_players side ops (flat_map stones_in ps) (flat_map players_in ps) (values p) (omega arith) old.setup last h.setup_is told))
+  pub gathered_players : (last : Option (Option Colour)) → kind_of p ≡ Some player_kind → ((before : Option Colour) → last_player before (values p) ≡ last) → IfSome last IsSome
+      → IsGathered side (ps ++ p ∷ []) ops (record old { setup = setup_with old.setup last })
+  gathered_players last is told some =
+      gathered_more (Some player_kind) ops (record old { setup = setup_with old.setup last }) is moves_stay
+      (rw (append-nil (flat_map stones_in ps)) (more_players side ops (flat_map stones_in ps) (flat_map players_in ps) (values p) (omega arith) old.setup last h.setup_is told some))
       (no_comment (option_copied old.comment)) h.on_board
 
   pub gathered_comment : (first : Bor (List ℕ)) → kind_of p ≡ Some comment_kind → p.first ≡ first.now → IsGathered side (ps ++ p ∷ []) ops (record old { comment = option_or old.comment (Some first) })

@@ -1,8 +1,7 @@
 -- The cursor went on to the next line, and so many nodes are played for that line.
-use Rattle.judged_lines.proofs.Common.{◌≡◌, ℕ, ◌-◌, ◌<◌, length, Result, Err, ap, subst, arith, rules, Bool, IsErr, common_steps, Front, CursorState, nodes_before, path_before, Continues, SequencesState, Before, Unheld, Held, Refused, AreHeld, HasPlays, PlaysLine, StandsBy, index_by, PlaysUpTo, fresh_plays, advanced, SharesFront}
+use Rattle.judged_lines.proofs.Common.{◌≡◌, ℕ, ◌-◌, ◌<◌, length, Result, Err, ap, subst, arith, rules, Bool, IsErr, common_steps, Front, CursorState, nodes_before, path_before, Continues, SequencesState, Before, Unheld, Held, Refused, AreHeld, HasPlays, PlaysLine, StandsBy, index_by, PlaysUpTo, fresh_plays, advanced, SharesFront, line_is, some_before}
 use Rattle.judged_lines.specs.GoingOn.{no_front}
 use Rattle.judged_lines.proofs.Keeping.{some_node}
-use Rattle.tree_lines.proofs.LineNodes.{line_is, some_before}
 use Rattle.judged_lines.proofs.LineVerdicts.{some_line}
 
 -- the cursor went on to the next line, of which this front is held

@@ -1,7 +1,5 @@
 -- A judge goes on by the nodes of a line, and how many of them are judged.
-use Rattle.std.proofs.Common.{◌≡◌, ℕ, ◌+◌, ◌≤◌, List, [], ◌∷◌, length, min, take, drop, ◌++◌, refl, slice_get, Some, None, Result, OnOk, sym, ap, subst, ◌∙◌, arith, length-append, append-nil, append_assoc, rules, length-take, length-take-le, take-append-drop, IsErr}
-use Rattle.std.proofs.Math.Seq.{take-append_seam}
-use Rattle.judged_lines.proofs.Common.{Node, Grid, LegalStep, GameKind, game_kind, root_properties, IsLegalStep, after, begun_game, board_in, HasJudged, PlaysUpTo, fresh_plays, judged_on, LegalNode, legal_on, Judging, IsDecided, IsStepFrom, IsUndecided, state_after, common_steps}
+use Rattle.judged_lines.proofs.Common.{Node, Grid, LegalStep, GameKind, game_kind, root_properties, IsLegalStep, after, begun_game, board_in, HasJudged, PlaysUpTo, fresh_plays, judged_on, LegalNode, legal_on, Judging, IsDecided, IsStepFrom, IsUndecided, state_after, common_steps, ◌≡◌, ℕ, ◌+◌, ◌≤◌, List, [], ◌∷◌, length, min, take, drop, ◌++◌, refl, slice_get, Some, None, Result, OnOk, sym, ap, subst, ◌∙◌, arith, length-append, append-nil, append_assoc, rules, length-take, length-take-le, take-append-drop, IsErr, take-append_seam}
 use Rattle.judged_lines.specs.inner.Keeping.{WentOn, plays_for}
 use Rattle.judged_lines.proofs.Judgements.{judging_more, plays_one, decided_all, decided_by}
 use Rattle.judged_lines.proofs.Keeping.{judging_front}

@@ -1,6 +1,5 @@
 -- A line's judgement goes on by a node, and back to its first nodes.
-use Rattle.judged_lines.proofs.Common.{◌≡◌, ℕ, ◌<◌, ◌≤◌, List, [], ◌∷◌, length, refl, ap, ◌∙◌, arith, suc, ◌+◌, ◌++◌, take, drop, Option, Some, None, Result, Ok, Err, sym, subst, length-append, append-nil, append_assoc, rules, fold, take_all, take-append-drop, length-take-le, lt-leb, common_steps, take-append-le, Node, Reason, State, States, followed_by, Verdict, GameKind, not_go, bad_size, board, Judgement, unjudged, judged, begun_game, after, judging, board_in, step, verdict_at, verdict_by, judged_on, LegalNode, IllegalNode, Walk, before_root, next, walk, legal_on, judged_by, back_from, back_to, Judging, IsDecided, IsUndecided, judgement_of, back, verdict_in, state_after, state_of, legal_by, fold-append, NotGo, BadSize}
-use Rattle.std.proofs.Common.{le-leb}
+use Rattle.judged_lines.proofs.Common.{◌≡◌, ℕ, ◌<◌, ◌≤◌, List, [], ◌∷◌, length, refl, ap, ◌∙◌, arith, suc, ◌+◌, ◌++◌, take, drop, Option, Some, None, Result, Ok, Err, sym, subst, length-append, append-nil, append_assoc, rules, fold, take_all, take-append-drop, length-take-le, lt-leb, common_steps, take-append-le, Node, Reason, State, States, followed_by, Verdict, GameKind, not_go, bad_size, board, Judgement, unjudged, judged, begun_game, after, judging, board_in, step, verdict_at, verdict_by, judged_on, LegalNode, IllegalNode, Walk, before_root, next, walk, legal_on, judged_by, back_from, back_to, Judging, IsDecided, IsUndecided, judgement_of, back, verdict_in, state_after, state_of, legal_by, fold-append, NotGo, BadSize, le-leb}
 use Rattle.judged_lines.specs.inner.Judging.{side_in}
 use Rattle.judged_lines.specs.Judgement.{stepped}
 use Rattle.judged_lines.specs.declared.verdict.Verdict.TheVariants.{Illegal}
@@ -39,18 +38,12 @@ Came count (unjudged told) = Unit {0}
 Came count (judged states None) = length states.earlier ≡ count
 Came count (judged states (Some told)) = length states.earlier < count
 
+one_came : (count : ℕ) (j : Judgement) (node : Node) → Came count j → Came (suc count) (after j node)
+one_came count j node came = grind (arith, common_steps)
+
 came_on : (count : ℕ) (j : Judgement) (nodes : List Node) → Came count j → Came (count + length nodes) (fold after j nodes)
 came_on count j [] h = subst (λ n. Came n j) (omega arith) h
-came_on count j (n ∷ ns) h = subst (λ m. Came m (fold after j (n ∷ ns))) (omega arith) (came_on (suc count) (after j n) ns (one j h))
-  where
-    by : (states : States) (r : Result State Reason) → length states.earlier ≡ count → Came (suc count) (stepped states n r)
-    by states (Ok s) e = ap suc e
-    by states (Err reason) e = omega (arith, e)
-
-    one : (j : Judgement) → Came count j → Came (suc count) (after j n)
-    one (unjudged told) h = tt
-    one (judged states None) h = by states (step states.present n) h
-    one (judged states (Some told)) h = omega (arith, h)
+came_on count j (n ∷ ns) h = subst (λ m. Came m (fold after j (n ∷ ns))) (omega arith) (came_on (suc count) (after j n) ns (one_came count j n h))
 
 back_within : (count : ℕ) (states : States) (ended : Option Verdict) → count ≤ length states.earlier → back count (judged states ended) ≡ judged (back_to states count) None
 back_within count states ended le = rw (le-leb count (length states.earlier) le) refl
@@ -67,22 +60,12 @@ HasTaken count (judged states (Some told)) = Unit {0}
 came_taken : (count : ℕ) (j : Judgement) → Came count j → HasTaken count j
 came_taken count j known = search rules
 
+back_one_more : (count : ℕ) (j : Judgement) (node : Node) → HasTaken count j → HasTaken count (after j node) × (back count (after j node) ≡ back count j)
+back_one_more count j node taken = grind (arith, common_steps, back_within, back_undone)
+
 back_on : (count : ℕ) (j : Judgement) (nodes : List Node) → HasTaken count j → back count (fold after j nodes) ≡ back count j
 back_on count j [] h = refl
-back_on count j (n ∷ ns) h = (let next = one j h in back_on count (after j n) ns next.0 ∙ next.1)
-  where
-    by : (states : States) (r : Result State Reason) → count ≤ length states.earlier → HasTaken count (stepped states n r) × (back count (stepped states n r) ≡ back count (judged states None))
-    by states (Ok s) le = (
-      omega arith,
-      back_within count (followed_by states s) None (omega arith) ∙ ap (λ t. judged t None) (back_undone (followed_by states s) states count s (omega arith) refl)
-          ∙ sym (back_within count states None le),
-    )
-    by states (Err reason) le = (tt, back_within count states (Some (Illegal (states.present.turns + 1) n.place reason)) le ∙ sym (back_within count states None le))
-
-    one : (j : Judgement) → HasTaken count j → HasTaken count (after j n) × (back count (after j n) ≡ back count j)
-    one (unjudged told) h = (tt, refl)
-    one (judged states None) h = by states (step states.present n) h
-    one (judged states (Some told)) h = (tt, refl)
+back_on count j (n ∷ ns) h = (let next = back_one_more count j n h in back_on count (after j n) ns next.0 ∙ next.1)
 
 came_first : (kind : GameKind) → Came 0 (begun_game kind)
 came_first kind = search rules
@@ -139,17 +122,9 @@ taken_more kind nodes node = grind (arith, common_steps, unjudged_stays, of_walk
 -- those of a longer walk begin with them
 taken_further : (count : ℕ) (walked : Walk) (nodes : List Node) → (walked.illegal ≡ None → count ≤ length walked.taken) → take count (fold next walked nodes).taken ≡ take count walked.taken
 taken_further count walked [] h = refl
-taken_further count walked (n ∷ ns) h = (let one = by walked.illegal refl in taken_further count (next walked n) ns one.0 ∙ one.1)
-  where
-    by_step : (r : Result State Reason) → count ≤ length walked.taken → let w = along.stepped walked n r in (w.illegal ≡ None → count ≤ length w.taken) × (take count w.taken ≡ take count walked.taken)
-    by_step (Ok s) le =
-        let one : List LegalNode = record { node = n; after = s } ∷ [] in
-        (λ none. omega (arith, le, length-append walked.taken one), take-append-le count walked.taken one le)
-    by_step (Err reason) le = (λ none. le, refl)
-
-    by : (o : Option IllegalNode) → walked.illegal ≡ o → let w = next_by walked o n in (w.illegal ≡ None → count ≤ length w.taken) × (take count w.taken ≡ take count walked.taken)
-    by None e = by_step (step walked.state n) (h e)
-    by (Some met) e = (h, refl)
+taken_further count walked (n ∷ ns) h =
+    let more : (let w = next walked n in (w.illegal ≡ None → count ≤ length w.taken) × (take count w.taken ≡ take count walked.taken)) = grind (arith, common_steps, length-append, take-append-le) in
+    taken_further count (next walked n) ns more.0 ∙ more.1
 
 taken_count : (count : ℕ) (j : Judgement) (walked : Walk) → Came count j → IsOfWalk j walked → (length walked.taken ≤ count) × (walked.illegal ≡ None → count ≤ length walked.taken)
 taken_count count j walked known known2 = search rules

@@ -1,10 +1,8 @@
 -- What is held of a line is kept of the next one, as far as it begins alike.
-use Rattle.judged_lines.proofs.Common.{◌≡◌, ℕ, suc, ◌+◌, ◌<◌, ◌≤◌, List, [], ◌∷◌, length, take, map, slice_get, Option, Some, refl, ap, arith, add-one, length-append, rules, length-take-le, common_steps, take-map, node_at, Node, Front, CursorState, advanced, Continues, line_in, line_before, nodes_before, path_before, lines, SequencesState, SharesFront, HasFront, IsHeldOf, GameKind, game_kind, root_properties, Judgement, judging, HoldsLine, LegalNode, legal_on, back}
+use Rattle.judged_lines.proofs.Common.{◌≡◌, ℕ, suc, ◌+◌, ◌<◌, ◌≤◌, List, [], ◌∷◌, length, take, map, slice_get, Option, Some, refl, ap, arith, add-one, length-append, rules, length-take-le, common_steps, take-map, node_at, Node, Front, CursorState, advanced, Continues, line_in, line_before, nodes_before, path_before, lines, SequencesState, SharesFront, HasFront, IsHeldOf, GameKind, game_kind, root_properties, Judgement, judging, HoldsLine, LegalNode, legal_on, back, front_kept, named_in, as_long}
 use Rattle.std.proofs.lemmas.List.FromFn.{length-range_with_len}
-use Rattle.judged_lines.proofs.Along.{same_root}
-use Rattle.tree_lines.proofs.Fronts.{front_kept}
+use Rattle.judged_lines.proofs.Walking.{same_root}
 use Rattle.judged_lines.proofs.Judgements.{judging_back, taken_cut}
-use Rattle.tree_lines.proofs.LineNodes.{named_in, as_long}
 
 -- the judgement on a line after its first nodes, and the legal ones of them
 abbrev pub judging_front : List Node → ℕ → Judgement

@@ -1,7 +1,5 @@
 -- While no node changes the board, its score stays.
-use Rattle.std.proofs.Common.{◌≡◌, ◌⊎◌, ℕ, ◌≤◌, min, inl, inr, List, [], ◌∷◌, ◌++◌, length, refl, ap, ◌∙◌, Option, Some, None, arith, rules, Result, false, is_some}
-use Rattle.std.proofs.lemmas.Bool.{false≢true}
-use Rattle.judged_lines.proofs.Common.{cases_lt, Grid, score_of, TurnFault, Reason, State, States, HadSameBoardSince, IsScoreAt, IsScoreOf, IsStepped, back_from, back_to, common_steps}
+use Rattle.judged_lines.proofs.Common.{cases_lt, Grid, score_of, TurnFault, Reason, State, States, HadSameBoardSince, IsScoreAt, IsScoreOf, IsStepped, back_from, back_to, common_steps, ◌≡◌, ◌⊎◌, ℕ, ◌≤◌, min, inl, inr, List, [], ◌∷◌, ◌++◌, length, refl, ap, ◌∙◌, Option, Some, None, arith, rules, Result, false, is_some, false≢true}
 use Rattle.board_stones.specs.declared.stones.Colour.TheVariants.{Black, White}
 use Rattle.judged_lines.proofs.Judgements.{back_none, back_one, back_undone}
 
@@ -19,11 +17,7 @@ same_back g s (e ∷ es) depth d le is since =
 
 length_back : (s : State) (es : List State) (d : ℕ) → d ≤ length es → length (back_from s es d).earlier ≡ d
 length_back s [] d le = omega (arith, le)
-length_back s (e ∷ es) d le =
-    elim (cases_lt d (length (e ∷ es))) [
-      | inl below ↦ ap (λ (states : States). length states.earlier) (back_one s e es d below) ∙ length_back e es d (omega (arith, below))
-      | inr above ↦ ap (λ (states : States). length states.earlier) (back_none (record { present = s; earlier = e ∷ es }) d above) ∙ omega (arith, le, above)
-    ]
+length_back s (e ∷ es) d le = grind (arith, common_steps, cases_lt, back_one, back_none, length_back e es d)
 
 -- back in two steps
 back_back : (s : State) (es : List State) (count d : ℕ) → d ≤ count → back_to (back_from s es count) d ≡ back_from s es d

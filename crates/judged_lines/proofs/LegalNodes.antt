@@ -26,11 +26,7 @@ has_side side j (n ∷ ns) h = has_side side (after j n) ns (keeps_side side j n
 kind_there : (kind : GameKind) (nodes : List Node) (grid : Grid) → board_in (judging kind nodes) ≡ Some grid → kind ≡ board grid.side
 kind_there not_go nodes grid there = absurd (let none = ap board_in (unjudged_stays NotGo nodes) in cc)
 kind_there bad_size nodes grid there = absurd (let none = ap board_in (unjudged_stays BadSize nodes) in cc)
-kind_there (board side) nodes grid there = by (judging (board side) nodes) (has_side side (begun_game (board side)) nodes refl) there
-  where
-    by : (j : Judgement) → HasSide side j → board_in j ≡ Some grid → board side ≡ board grid.side
-    by (unjudged told) h e = absurd cc
-    by (judged states ended) h e = let same : states.present.colouring ≡ grid = cc in ap board (sym h ∙ ap (λ (g : Grid). g.side) same)
+kind_there (board side) nodes grid there = grind (arith, common_steps, has_side side (begun_game (board side)) nodes refl)
 
 -- a step that a judge told of
 side_after : (j : Judgement) (n : Node) (s : State) → state_after j n ≡ Some s → side_in j ≡ s.colouring.side

@@ -1,13 +1,11 @@
 mod Common
 pub mod ExamplesOfVerdicts
 pub mod Walking
-pub mod Joins
 pub mod Lists
 pub mod Steps
 pub mod Gathered
 pub mod Judgements
 pub mod LegalNodes
-pub mod Along
 pub mod Keeping
 pub mod KeptScores
 pub mod LineVerdicts

@@ -1,9 +1,6 @@
 -- The verdict of the line before a cursor, of the line that ends in a leaf, and of the line that has a place.
-use Rattle.std.proofs.Common.{◌≡◌, ℕ, ◌<◌, List, length, Option, Some, ap, ◌∙◌, arith, rules, ◌+◌, option_map, Result, IfOk}
-use Rattle.judged_lines.proofs.Common.{common_steps, MemoryFault, IsLeaf, Node, Games, node_count, CursorState, nodes_of, line_before, nodes_before, Line, Path, Verdict, game_kind, root_properties, Judgement, judging, verdict_of, verdict, IsVerdictAt, verdict_in}
+use Rattle.judged_lines.proofs.Common.{common_steps, MemoryFault, IsLeaf, Node, Games, node_count, CursorState, nodes_of, line_before, nodes_before, Line, Path, Verdict, game_kind, root_properties, Judgement, judging, verdict_of, verdict, IsVerdictAt, verdict_in, ◌≡◌, ℕ, ◌<◌, List, length, Option, Some, ap, ◌∙◌, arith, rules, ◌+◌, option_map, Result, IfOk, IsNextLine, next_line, before, line_at}
 use Rattle.judged_lines.proofs.Judgements.{judging_verdict}
-use Rattle.tree_lines.proofs.CursorStates.{IsNextLine, next_line, before}
-use Rattle.tree_lines.proofs.Named.{line_at}
 
 pub verdict_is : (nodes : List Node) (j : Judgement) (v : Verdict) → v ≡ verdict_in j → j ≡ judging (game_kind (root_properties nodes)) nodes → v ≡ verdict_of nodes
 verdict_is nodes j v e h = e ∙ ap verdict_in h ∙ judging_verdict (game_kind (root_properties nodes)) nodes

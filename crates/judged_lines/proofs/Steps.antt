@@ -1,6 +1,5 @@
 -- A node's step by what is gathered of it.
-use Rattle.judged_lines.proofs.Common.{◌≡◌, ◌⊎◌, ◌<◌, ℕ, Option, Some, None, List, [], ◌∷◌, length, Ok, Err, refl, sym, ap, ◌∙◌, arith, rules, Result, option_and_then, IsSome, common_steps, Node, SetupOp, Colour, TurnFault, Reason, States, turned, followed_by, State, Meant, moves, stones, players, player_value, operations, last_player, turn_step, move_step, setup_step, step_by, step, IsSetup, IsStepped, Move, Stones}
-use Rattle.std.proofs.Common.{IsErrOf, ◌↔◌}
+use Rattle.judged_lines.proofs.Common.{◌≡◌, ◌⊎◌, ◌<◌, ℕ, Option, Some, None, List, [], ◌∷◌, length, Ok, Err, refl, sym, ap, ◌∙◌, arith, rules, Result, option_and_then, IsSome, common_steps, Node, SetupOp, Colour, TurnFault, Reason, States, turned, followed_by, State, Meant, moves, stones, players, player_value, operations, last_player, turn_step, move_step, setup_step, step_by, step, IsSetup, IsStepped, Move, Stones, IsErrOf, ◌↔◌}
 use Rattle.go_board.specs.declared.referee.plays.Play.{Play}
 use Rattle.go_board.specs.declared.fault.TurnFault.TheVariants.{Illegal, Memory}
 use Rattle.go_board.specs.Reason.{reason_of}

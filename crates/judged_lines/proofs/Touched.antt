@@ -1,24 +1,19 @@
 -- The places of nodes on lines, each once. A line adds the places that it doesn't share with the line before it, since these rise from that of the first node
 -- after that line. So the places on all lines are those of all nodes, and no more nodes are judged than there are.
-use Rattle.std.proofs.Common.{◌≡◌, ℕ, ◌+◌, ◌-◌, ◌<◌, ◌≤◌, Bool, true, false, List, [], ◌∷◌, ◌++◌, inl, inr, refl, sym, ap, ◌∙◌, arith, zero, suc, length, map, slice_get, Some, None, unwrap_or, append_assoc, append-nil, length-append, take, drop, rules, filter, ◌||◌, if◌then◌else◌, flat_map, eqb, ne_eqb, eqb-true, eq-eqb, take-append-drop, length-take-le, take_all}
 use Rattle.std.specs.List.{range_with_len, IsDistinct, drop-map}
 use Rattle.std.specs.Set.{is_member}
 use Rattle.std.proofs.Math.Bool.{or-true}
 use Rattle.std.proofs.lemmas.Cmp.{nat_eq_equiv}
-use Rattle.judged_lines.proofs.Common.{cases_Bool, cases_lt, cases_eq, flat_map-append, common_steps, map-append, take-map, length-map, filter-append, filter_passes, All-filter, All-from_recursion, recursion_from_All, slice_get_within, OrderedNode, ordered_nodes, node_at, place_at, PlacesRise, Node, Games, node_count, first_after, Continues, numbers_before, nodes_of, Line, lines, last_number, paths, game_kind, root_properties, differ, different, places_of, node_places, touched_places, judged_places, all_judged_places}
-use Rattle.std.proofs.lemmas.List.Folds.{list_any-append}
+use Rattle.judged_lines.proofs.Common.{cases_Bool, cases_lt, cases_eq, flat_map-append, common_steps, map-append, take-map, length-map, filter-append, filter_passes, All-filter, All-from_recursion, recursion_from_All, slice_get_within, OrderedNode, ordered_nodes, node_at, place_at, PlacesRise, Node, Games, node_count, first_after, Continues, numbers_before, nodes_of, Line, lines, last_number, paths, game_kind, root_properties, differ, different, places_of, node_places, touched_places, judged_places, all_judged_places, ◌≡◌, ℕ, ◌+◌, ◌-◌, ◌<◌, ◌≤◌, Bool, true, false, List, [], ◌∷◌, ◌++◌, inl, inr, refl, sym, ap, ◌∙◌, arith, zero, suc, length, map, slice_get, Some, None, unwrap_or, append_assoc, append-nil, length-append, take, drop, rules, filter, ◌||◌, if◌then◌else◌, flat_map, eqb, ne_eqb, eqb-true, eq-eqb, take-append-drop, length-take-le, take_all, list_any-append, drop-append_seam, place_of_node, length-paths, named_in, as_many}
 use Rattle.std.proofs.lemmas.Map.Made.{All-is_member, is_member-filter, length-le_from_is_member}
 use Rattle.std.proofs.lemmas.Map.Keys.{IsDistinct-cons, IsDistinct-head, IsDistinct-tail}
-use Rattle.std.proofs.Math.Seq.{drop-append_seam}
 use Rattle.sgf_outline.proofs.Lists.{slice_get-right}
 use Rattle.sgf_outline.proofs.OrderedNodes.{length-nodes_from, length-ordered_nodes}
 use Rattle.sgf_outline.proofs.Rises.{Rises, rises-ends}
 use Rattle.tree_lines.proofs.Lists.{Each, each_weaker, each_append, each_take, element, range_append}
-use Rattle.tree_lines.proofs.Named.{place_of_node, length-paths}
 use Rattle.tree_lines.proofs.Visits.{way_within, way_rises, rises_parts, leads, after_way, last_number-append, continues, goes_on_there, last_end}
-use Rattle.tree_lines.proofs.LineNodes.{named_in, as_many}
 use Rattle.judged_lines.proofs.Keeping.{same_front}
-use Rattle.judged_lines.proofs.Joins.{more_texts}
+use Rattle.judged_lines.proofs.Lists.{more_texts}
 use Rattle.judged_lines.proofs.Walking.{judged_front, judged_alike}
 
 -- whether a number stands in a list

@@ -1,8 +1,7 @@
 -- A walk along a line ends with the first node whose step is refused, or with the last node. The judged nodes are a front of the line.
-use Rattle.judged_lines.proofs.Common.{common_steps, map-append, Node, Reason, State, starting, GameKind, not_go, bad_size, board, game_kind, root_properties, step, verdict_at, score_in, judged_on, IllegalNode, Walk, before_root, next, walk, IsAfter, no_node, one_node, HasIllegal, judged_by, ◌≡◌, ℕ, ◌+◌, List, [], ◌∷◌, ◌++◌, Some, None, Result, Ok, Err, refl, ap, ◌∙◌, ◌⊎◌, inl, inr, zero, suc, ◌≤◌, length, take, Option, sym, arith, append_assoc, append-nil, fold, fold-append}
+use Rattle.judged_lines.proofs.Common.{common_steps, map-append, Node, Reason, State, starting, GameKind, not_go, bad_size, board, game_kind, root_properties, step, verdict_at, score_in, judged_on, IllegalNode, Walk, before_root, next, walk, IsAfter, no_node, one_node, HasIllegal, judged_by, ◌≡◌, ℕ, ◌+◌, List, [], ◌∷◌, ◌++◌, Some, None, Result, Ok, Err, refl, ap, ◌∙◌, ◌⊎◌, inl, inr, zero, suc, ◌<◌, ◌≤◌, length, take, Option, sym, arith, append_assoc, append-nil, fold, fold-append}
 use Rattle.judged_lines.specs.declared.verdict.Verdict.TheVariants.{Illegal}
 use Rattle.judged_lines.specs.Walk.{stepped, next_by}
-use Rattle.judged_lines.proofs.Along.{same_root}
 
 -- the walk has met no illegal node, and leads to that state
 pub record StandsAfter (w : Walk) (s : State) : Type 0 where
@@ -106,6 +105,10 @@ judged_front (board side) nodes = (more_judged (before_root side) nodes, judged_
 -- and which of a front they are is seen in it
 pub judged_of_front : (said : GameKind) (nodes : List Node) (k : ℕ) → take k (judged_on said nodes) ≡ judged_on said (take k nodes)
 judged_of_front said nodes k = grind (arith, common_steps, judged_fold, judged_take)
+
+-- nodes that begin alike have the same root
+pub same_root : (shared : ℕ) (old nodes : List Node) → 0 < shared → shared ≤ length old → take shared old ≡ take shared nodes → root_properties old ≡ root_properties nodes
+same_root shared old nodes lt le e = grind (arith, common_steps)
 
 -- what lines share is judged alike
 pub judged_alike : (old nodes : List Node) (k : ℕ) → k ≤ length old → take k old ≡ take k nodes

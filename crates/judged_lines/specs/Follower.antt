@@ -3,8 +3,7 @@ use Rattle.std.specs.Prelude.{◌≡◌, ℕ, ◌+◌, ◌-◌, List, take, drop
 use Rattle.sgf_outline.specs.Tree.{Games}
 use Rattle.sgf_properties.specs.declared.fault.MemoryFault.{MemoryFault}
 use Rattle.tree_lines.specs.Lines.{Line, lines}
-use Rattle.judged_lines.specs.Verdict.{verdict}
-use Rattle.judged_lines.specs.declared.verdict.Verdict.{Verdict}
+use Rattle.judged_lines.specs.Verdict.{Verdict, verdict}
 
 -- A collection; the index of the follower's next line, from 0; and the follower's streak: how many lines directly before that one it
 -- has judged. The follower shows the last of these. After a refusal of memory a new streak begins.

@@ -4,8 +4,8 @@ use Rattle.sgf_outline.specs.Tree.{Node}
 use Rattle.tree_lines.specs.Lines.{Line, lines}
 use Rattle.tree_lines.specs.Cursor.{CursorState, advanced}
 use Rattle.tree_lines.specs.declared.sequence_cursor.Front.{Front}
-use Rattle.judged_lines.specs.declared.over_lines.Before.{Before}
-use Rattle.judged_lines.specs.declared.over_lines.Before.TheVariants.{Unheld, Held, Refused}
+pub use Rattle.judged_lines.specs.declared.over_lines.Before.{Before}
+pub use Rattle.judged_lines.specs.declared.over_lines.Before.TheVariants.{Unheld, Held, Refused}
 use Rattle.tree_lines.specs.Following.{Continues, path_before}
 use Rattle.judged_lines.specs.Keeping.{fresh_plays}
 use Rattle.tree_lines.specs.Sequences.{SequencesState, SharesFront, nodes_in}

@@ -2,9 +2,8 @@
 use Rattle.std.specs.Prelude.{◌≡◌, ℕ, ◌+◌, ◌-◌, ◌<◌, ◌≤◌, List, length, Result, OnOk}
 use Rattle.sgf_outline.specs.Tree.{Node}
 use Rattle.judged_lines.specs.JudgedGames.{GameKind, game_kind, root_properties}
-use Rattle.judged_lines.specs.Verdict.{judged_on, verdict_of}
+use Rattle.judged_lines.specs.Verdict.{Verdict, judged_on, verdict_of}
 use Rattle.judged_lines.specs.Walk.{LegalNode, legal_on}
-use Rattle.judged_lines.specs.declared.verdict.Verdict.{Verdict}
 use Rattle.judged_lines.specs.Judgement.{Judgement, judging}
 use Rattle.tree_lines.specs.Following.{nodes_before}
 use Rattle.tree_lines.specs.Sequences.{SequencesState}

@@ -3,11 +3,11 @@
 use Rattle.std.specs.Prelude.{Option, Some, None, List, [], ◌∷◌, ℕ, Result, Ok, Err}
 use Rattle.sgf_outline.specs.Tree.{Node}
 use Rattle.board_stones.specs.declared.stones.Colour.{Colour}
-use Rattle.go_board.specs.declared.referee.plays.Play.{Play}
 use Rattle.board_stones.specs.declared.setup_op.SetupOp.{SetupOp}
-use Rattle.go_board.specs.declared.reason.Reason.{Reason}
-use Rattle.go_board.specs.declared.reason.Reason.TheVariants.{Mixed, TwoMoves, BadSetup, BadPoint}
+use Rattle.go_board.specs.declared.referee.plays.Play.{Play}
 use Rattle.go_board.specs.State.{State, set_up, turned}
+use Rattle.go_board.specs.declared.reason.Reason.TheVariants.{Mixed, TwoMoves, BadSetup, BadPoint}
+use Rattle.go_board.specs.declared.reason.Reason.{Reason}
 use Rattle.go_board.specs.Reason.{reason_of}
 use Rattle.judged_lines.specs.NodeContents.{Move, Stones, moves, stones, players}
 use Rattle.judged_lines.specs.NodeValues.{move_value, operations, last_player}

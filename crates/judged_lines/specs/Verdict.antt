@@ -6,8 +6,8 @@ use Rattle.sgf_outline.specs.FileOrder.{place_at}
 use Rattle.board_stones.specs.declared.stones.Colour.TheVariants.{Black, White}
 use Rattle.board_stones.specs.Score.{score_of}
 use Rattle.go_board.specs.State.{State, is_over}
-use Rattle.judged_lines.specs.declared.verdict.Verdict.{Verdict}
-use Rattle.judged_lines.specs.declared.verdict.Verdict.TheVariants.{Score, Illegal, NotGo, BadSize}
+pub use Rattle.judged_lines.specs.declared.verdict.Verdict.{Verdict}
+pub use Rattle.judged_lines.specs.declared.verdict.Verdict.TheVariants.{Score, Illegal, NotGo, BadSize}
 use Rattle.tree_lines.specs.Lines.{Line, lines, place_of}
 use Rattle.tree_lines.specs.Paths.{paths, leaf_of}
 use Rattle.judged_lines.specs.JudgedGames.{GameKind, not_go, bad_size, board, game_kind, root_properties}

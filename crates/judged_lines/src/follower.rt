@@ -44,7 +44,6 @@ impl LineKeeper for JudgedLine {
 #[derive(Drop)]
 pub struct Follower<'c, 'a> {
     lines: OverLines<'c, 'a, JudgedLine>,
-
     /// How many lines it has judged, since it began or since memory was last refused.
     streak: u64,
 }
@@ -79,14 +78,11 @@ impl<'c, 'a> Follower<'c, 'a> {
         ensures { result ≡ record { games = cursor.entry.games; index = cursor.entry.index; streak = 0 } }
     {
         let (cursor, path) = cursor.into_parts();
-        let keeper = JudgedLine {
-            judged: Judged::new(alloc, ()),
-            path,
-        };
+        let judged = Judged::new(alloc, ());
         let lines = OverLines {
             cursor,
             before: Before::Unheld,
-            keeper,
+            keeper: JudgedLine { judged, path },
         };
         Follower { lines, streak: 0 }
     }

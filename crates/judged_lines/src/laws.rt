@@ -5,9 +5,8 @@ ghost use Rattle.sgf_outline.specs.Tree.{Node};
 ghost use Rattle.judged_lines.specs.JudgedGames.{board};
 ghost use Rattle.go_board.specs.declared.reason.Reason.{Reason};
 ghost use Rattle.go_board.specs.State.{State, starting};
-ghost use Rattle.judged_lines.specs.declared.verdict.Verdict.TheVariants.{Illegal};
 ghost use Rattle.judged_lines.specs.Step.{step};
-ghost use Rattle.judged_lines.specs.Verdict.{score_in, verdict_by};
+ghost use Rattle.judged_lines.specs.Verdict.{Illegal, score_in, verdict_by};
 ghost use Rattle.judged_lines.specs.Walk.{IsAfter, HasIllegal};
 
 pub use tree_lines::laws::named;

@@ -38,7 +38,7 @@
 //! | which values are moves, stones and players; that KM, HA and others have no effect | `kind_of`; `Contents::of_lone` for a node that is recognized at a glance; `NEEDED_NAMES` says which names no such node has (`judging/contents`) |
 //! | which games are judged: GM; SZ | `board_size`; `size`; of several the first counts: `game_and_side` (`judging/root`) |
 //! | the first reason of a node: `mixed`, `two-moves` or `bad-setup`; then `bad-point` | `take_contents` (`judging/step`); a faulty value of a setup: `push_rectangles`, `last_player` (`judging/contents`) |
-//! | which values are passes; the last value of PL, which counts | `move_value`, `last_player`, `with_player` (`judging/contents`); what PL does then: `Referee::setup` of `go_board` (`referee/setup`) |
+//! | which values are passes; the last value of PL, which counts | `move_value`, `last_player`, `with_values` (`judging/contents`); what PL does then: `Referee::setup` of `go_board` (`referee/setup`) |
 //! | the other reasons | `Referee::reason_before_repeat` of `go_board` (`referee/turn`); for `repeat` the table of `board_past` |
 //! | that nothing of a line is told from its first illegal node on | `judge_sequence` (`judging/judged`) |
 //! | TURN, PLACE and REASON of the first illegal node | `Judge::take` (`judging/judge`) |

@@ -5,9 +5,8 @@ ghost use Rattle.std.specs.Prelude.{◌≡◌, ◌≢◌, ◌+◌, ◌<◌, ℕ,
 ghost use Rattle.sgf_outline.specs.Tree.{node_count};
 ghost use Rattle.tree_lines.specs.Lines.{lines};
 ghost use Rattle.tree_lines.specs.Cursor.{advanced};
-ghost use Rattle.judged_lines.specs.declared.over_lines.Before.TheVariants.{Unheld, Held};
 ghost use Rattle.tree_lines.specs.Following.{nodes_before};
-ghost use Rattle.judged_lines.specs.GoingOn.{HasFront, IsHeldOf, PlaysLine, StandsBy, next_by};
+ghost use Rattle.judged_lines.specs.GoingOn.{Unheld, Held, HasFront, IsHeldOf, PlaysLine, StandsBy, next_by};
 ghost use Rattle.judged_lines.specs.Keeping.{PlaysUpTo, fresh_plays};
 ghost use Rattle.tree_lines.specs.Sequences.{SequencesState, RiseTo};
 

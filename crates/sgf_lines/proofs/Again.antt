@@ -1,11 +1,10 @@
 -- The sgf output of a collection is itself a text of the grammar, with the same sgf output and the same verdicts.
-use Rattle.sgf_lines.proofs.Common.{AllZip, common_steps, WhiteSpace, no_white_space, white_space, Letters, no_letter, upper, lower, IsPropValue, prop_value, ArePropValues, no_value, value, IsProperty, property, AreProperties, no_property, properties, IsNode, node, AreNodes, no_node, nodes, AreGames, no_game, games, no_byte_order_mark, Spells, spells, Property, Node, Games, no_games, game, Line, through, node_lines, lines_from, lines, Reason, State, starting, GameKind, not_go, bad_size, board, moves_in, stones_in, players_in, step_by, step, score_in, verdict_with, verdict_at, verdict_by, verdict_of, LegalNode, IllegalNode, Walk, stepped, next, walk, Options, page, value_text, property_text, node_text, sgf_record, output, HaveSame, SaysSame, scored, illegal_at, another_game, another_size, IsKept, ◌≡◌, ℕ, suc, ◌+◌, List, [], ◌∷◌, ◌++◌, fold, slice_get, Some, None, Result, Ok, Err, refl, sym, ap, ◌∙◌, subst, ◌≢◌, length, map, arith, append_assoc, length-append, rules, flat_map}
+use Rattle.sgf_lines.proofs.Common.{AllZip, common_steps, WhiteSpace, no_white_space, white_space, Letters, no_letter, upper, lower, IsPropValue, prop_value, ArePropValues, no_value, value, IsProperty, property, AreProperties, no_property, properties, IsNode, node, AreNodes, no_node, nodes, AreGames, no_game, games, no_byte_order_mark, Spells, spells, Property, Node, Games, no_games, game, Line, through, node_lines, lines_from, lines, Reason, State, starting, GameKind, not_go, bad_size, board, moves_in, stones_in, players_in, step_by, step, score_in, verdict_with, verdict_at, verdict_by, verdict_of, LegalNode, IllegalNode, Walk, stepped, next, walk, Options, page, value_text, property_text, node_text, sgf_record, output, HaveSame, SaysSame, scored, illegal_at, another_game, another_size, IsKept, ◌≡◌, ℕ, suc, ◌+◌, List, [], ◌∷◌, ◌++◌, fold, slice_get, Some, None, Result, Ok, Err, refl, sym, ap, ◌∙◌, subst, ◌≢◌, length, map, arith, append_assoc, length-append, rules, flat_map, Each, each_append, each_parts, each_map, each_through}
 use Rattle.judged_lines.specs.declared.verdict.Verdict.TheVariants.{Illegal}
 use Rattle.judged_lines.proofs.Walking.{after_illegal}
 use Rattle.sgf_properties.specs.RawValue.{IsValue, no_unit, ordinary, escaped}
 use Rattle.sgf_lines.specs.declared.options.Form.TheVariants.{Sgf as sgf_form}
 use Rattle.sgf_lines.proofs.Pages.{on_page}
-use Rattle.tree_lines.proofs.Lists.{Each, each_append, each_parts, each_map, each_through}
 
 -- two walks end in the same state, and met no illegal node, or one at the same index for the same reason
 data Alike (w v : Walk) (nodes others : List Node) : Type 0 where
@@ -28,21 +27,14 @@ going taken state = record { taken = taken; state = state; illegal = None }
 step_alike : (ts us : List LegalNode) (s : State) (n m : Node) (ns ms : List Node) (a b : Result State Reason) → a ≡ b
     → ((ts us : List LegalNode) (t : State) → Alike (fold next (going ts t) ns) (fold next (going us t) ms) ns ms)
     → Alike (fold next (stepped (going ts s) n a) ns) (fold next (stepped (going us s) m b) ms) (n ∷ ns) (m ∷ ms)
-step_alike ts us s n m ns ms (Ok t) (Ok u) e goes =
-    let same : t ≡ u = cc in
-    let left = ts ++ record { node = n; after = t } ∷ [] in
-    let right : State → List LegalNode = λ x. us ++ record { node = m; after = x } ∷ [] in
-    later (fold next (going left t) ns) (fold next (going (right u) u) ms) n m ns ms
-    (subst (λ x. Alike (fold next (going left t) ns) (fold next (going (right u) x) ms) ns ms) same (goes left (right u) t))
+step_alike ts us s n m ns ms (Ok t) (Ok u) e goes = let same : t ≡ u = cc in rw (← same) (later _ _ n m ns ms (goes _ _ t))
 step_alike ts us s n m ns ms (Err r) (Err q) e goes =
     let same : r ≡ q = cc in
     let one : IllegalNode = record { node = n; reason = r } in
-    let two : Reason → IllegalNode = λ x. record { node = m; reason = x } in
+    let two : IllegalNode = record { node = m; reason = r } in
     let w : Walk = record { taken = ts; state = s; illegal = Some one } in
-    let v : Walk = record { taken = us; state = s; illegal = Some (two q) } in
-    let here : Alike w v (n ∷ ns) (m ∷ ms) = met 0 n m r refl refl refl refl (ap (λ x. Some (two x)) (sym same)) in
-    subst (λ x. Alike x (fold next v ms) (n ∷ ns) (m ∷ ms)) (sym (after_illegal w one ns refl))
-    (subst (λ x. Alike w x (n ∷ ns) (m ∷ ms)) (sym (after_illegal v (two q) ms refl)) here)
+    let v : Walk = record { taken = us; state = s; illegal = Some two } in
+    rw (← same, after_illegal w one ns refl, after_illegal v two ms refl) (met 0 n m r refl refl refl refl refl)
 step_alike ts us s n m ns ms (Ok t) (Err q) e goes = absurd cc
 step_alike ts us s n m ns ms (Err r) (Ok u) e goes = absurd cc
 
@@ -53,16 +45,8 @@ alike (n ∷ ns) [] h ts us s = absurd h
 alike (n ∷ ns) (m ∷ ms) h ts us s = step_alike ts us s n m ns ms (step s n) (step s m) (step_same s n m h.0) (alike ns ms h.1)
 
 walks_say : (w v : Walk) (ns ms : List Node) → Alike w v ns ms → SaysSame ns ms (verdict_at w) (verdict_at v)
-walks_say w v ns ms (legal s e f) =
-    let one : verdict_at w ≡ score_in w.state = ap (λ o. verdict_with w.state o) e in
-    let two : verdict_at v ≡ score_in w.state = ap (λ o. verdict_with v.state o) f ∙ ap score_in (sym s) in
-    subst (λ x. SaysSame ns ms x (verdict_at v)) (sym one) (subst (λ x. SaysSame ns ms (score_in w.state) x) (sym two) scored)
-walks_say w v ns ms (met index own other reason a b s e f) =
-    let turn = w.state.turns + 1 in
-    let one : verdict_at w ≡ Illegal turn own.place reason = ap (λ o. verdict_with w.state o) e in
-    let two : verdict_at v ≡ Illegal turn other.place reason =
-    ap (λ o. verdict_with v.state o) f ∙ ap (λ (x : State). Illegal (x.turns + 1) other.place reason) (sym s) in
-    subst (λ x. SaysSame ns ms x (verdict_at v)) (sym one) (subst (λ x. SaysSame ns ms (Illegal turn own.place reason) x) (sym two) (illegal_at index a b))
+walks_say w v ns ms (legal s e f) = rw (e, f, s) scored
+walks_say w v ns ms (met index own other reason a b s e f) = rw (e, f, s) (illegal_at index a b)
 
 says_by : (kind : GameKind) (ns ms : List Node) → AllZip HaveSame ns ms → SaysSame ns ms (verdict_by kind ns) (verdict_by kind ms)
 says_by not_go ns ms h = another_game

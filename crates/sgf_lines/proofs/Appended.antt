@@ -1,11 +1,10 @@
 -- The lines of games after others are those of the others and then theirs, and what stands further on is judged alike.
-use Rattle.sgf_lines.proofs.Common.{AllZip, common_steps, flat_map-append, map-append, length-map, slice_get-map, Node, Games, no_games, game, game_count, joined, Line, node_lines, lines_of_game, lines_from, lines, last_number, Verdict, verdict_of, record_of, HaveSame, SaysSame, scored, illegal_at, another_game, another_size, ◌≡◌, ◌≢◌, ℕ, ◌+◌, List, [], ◌∷◌, ◌++◌, map, refl, ap, arith, append_assoc, flat_map}
+use Rattle.sgf_lines.proofs.Common.{AllZip, common_steps, flat_map-append, map-append, length-map, slice_get-map, Node, Games, no_games, game, game_count, joined, Line, node_lines, lines_of_game, lines_from, lines, last_number, Verdict, verdict_of, record_of, HaveSame, SaysSame, scored, illegal_at, another_game, another_size, ◌≡◌, ◌≢◌, ℕ, ◌+◌, List, [], ◌∷◌, ◌++◌, map, refl, ap, arith, append_assoc, flat_map, Each, map-through}
 use Rattle.sgf_tree.specs.Appending.{raised_node, raised}
 use Rattle.sgf_lines.specs.declared.options.Form.TheVariants.{List as list_form}
 use Rattle.sgf_lines.specs.Appending.{raised_verdict, raised_record}
 use Rattle.tree_lines.specs.Paths.{Path, paths, IsPathOf}
 use Rattle.sgf_lines.proofs.Again.{says_same}
-use Rattle.tree_lines.proofs.Lists.{Each, map-through}
 use Rattle.tree_lines.proofs.LineNodes.{as_many}
 use Rattle.tree_lines.proofs.Visits.{some_node, LeadsToLeaf, each_path}
 use Rattle.tree_lines.proofs.Named.{each_named}

@@ -1,6 +1,5 @@
 -- A text that is cut where a test passes, by the first byte where it does.
-use Rattle.std.proofs.Common.{◌≡◌, ℕ, ◌<◌, ◌+◌, ◌-◌, ◌++◌, Option, Some, Bool, true, false, List, [], ◌∷◌, zero, suc, length, take, drop, get_or, refl, sym, arith, length-append, rules, append_assoc, Result, ◌==◌, is_some, filter, OnOk, flat_map, take_all, length-drop, append-nil}
-use Rattle.sgf_lines.proofs.Common.{slice_split, drop-append_seam, false_from_ne_true, common_steps, Point, points, Colour, stone_of, same_cell, Grid, cell_at, Stone, text_rows, comment_row, play_command, stone_commands, commands_at}
+use Rattle.sgf_lines.proofs.Common.{slice_split, drop-append_seam, false_from_ne_true, common_steps, Point, points, Colour, stone_of, same_cell, Grid, cell_at, Stone, text_rows, comment_row, play_command, stone_commands, commands_at, ◌≡◌, ℕ, ◌<◌, ◌+◌, ◌-◌, ◌++◌, Option, Some, Bool, true, false, List, [], ◌∷◌, zero, suc, length, take, drop, get_or, refl, sym, arith, length-append, rules, append_assoc, Result, ◌==◌, is_some, filter, OnOk, flat_map, take_all, length-drop, append-nil}
 use Rattle.memchr.specs.Find.{IsFirstByte}
 
 module _ (test : ℕ → Bool) where

@@ -1,6 +1,5 @@
 -- The answer of a count, and a row that is put in two pieces.
-use Rattle.sgf_lines.proofs.Common.{Appends, Appends-trans, take-append-add, common_steps, take-append-le, Spells, Games, SourceState, SinkState, PutsAll, counts_of, IsCount, HasReadAll}
-use Rattle.std.proofs.Common.{◌≡◌, ℕ, ◌+◌, length, ap, ◌∙◌, arith, List, ◌++◌, take, Result, Ok, Err, length-append, IsErr}
+use Rattle.sgf_lines.proofs.Common.{Appends, Appends-trans, take-append-add, common_steps, take-append-le, Spells, Games, SourceState, SinkState, PutsAll, counts_of, IsCount, HasReadAll, ◌≡◌, ℕ, ◌+◌, length, ap, ◌∙◌, arith, List, ◌++◌, take, Result, Ok, Err, length-append, IsErr}
 use Rattle.sgf_lines.specs.declared.counting.Counts.{Counts}
 
 module _ (source new_source : SourceState) (text : List ℕ) (h : HasReadAll source new_source text) where

@@ -1,6 +1,5 @@
 -- The lines of a page among all lines. Their places rise, so the line with a place is found, and pages join.
-use Rattle.sgf_lines.proofs.Common.{drop-append-add, common_steps, slice_get-map, slice_get_within, get_or_from_slice_get, PlacesRise, Games, CursorState, IsAfterPlace, Line, lines, place_of, Options, lines_after, lines_asked, limited, page}
-use Rattle.std.proofs.Common.{◌≡◌, ℕ, suc, length, map, slice_get, Some, option_map, sym, ap, ◌∙◌, slice_index, add-one, arith, ◌≢◌, zero, ◌+◌, ◌<◌, List, [], ◌∷◌, drop, Option, None, refl, ◌++◌, append_assoc, append-nil, Bool, true, false, take-append-drop, ◌==◌, eq-eqb, ne_eqb}
+use Rattle.sgf_lines.proofs.Common.{drop-append-add, common_steps, slice_get-map, slice_get_within, get_or_from_slice_get, PlacesRise, Games, CursorState, IsAfterPlace, Line, lines, place_of, Options, lines_after, lines_asked, limited, page, ◌≡◌, ℕ, suc, length, map, slice_get, Some, option_map, sym, ap, ◌∙◌, slice_index, add-one, arith, ◌≢◌, zero, ◌+◌, ◌<◌, List, [], ◌∷◌, drop, Option, None, refl, ◌++◌, append_assoc, append-nil, Bool, true, false, take-append-drop, ◌==◌, eq-eqb, ne_eqb}
 use Rattle.std.specs.List.Sorted.{IsStrictlyIncreasing}
 use Rattle.std.proofs.lemmas.List.Kept.{AllPairs-from_increasing}
 use Rattle.tree_lines.proofs.LinePlaces.{lines_rise}

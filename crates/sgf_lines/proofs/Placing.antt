@@ -1,7 +1,6 @@
 -- The stones of a colouring in which every stone reaches empty, played one by one, black ones before white ones, make that
 -- colouring: nothing is captured on the way, since a stone reaches empty sooner where fewer stones stand.
-use Rattle.sgf_lines.proofs.Common.{range_with_len, cases_Bool, cases_eq, cases_lt, common_steps, get_or-replicate, length-replicate, slice_get_within, Point, IsOn, index_of, point_at, points, vertex_of, Cell, Colour, clear, play, HasUnreaching, has_unreaching, stone_of, same_cell, Grid, cell_at, with_cell, empty_grid, Leads, Reaches, reaches, Stone, shows, colour_letter, vertex_text, play_command, stone_commands, colouring_commands, Each}
-use Rattle.std.proofs.Common.{◌≡◌, ◌≢◌, ◌↔◌, ℕ, zero, suc, ◌+◌, ◌*◌, ◌<◌, ◌≤◌, List, [], ◌∷◌, ◌++◌, length, map, filter, Some, Bool, true, false, IsTrue, slice_get, codes, refl, sym, ap, ◌∙◌, arith, subst, inl, inr, ◌⊎◌, cond, length-set, flat_map}
+use Rattle.sgf_lines.proofs.Common.{range_with_len, cases_Bool, cases_eq, cases_lt, common_steps, get_or-replicate, length-replicate, slice_get_within, Point, IsOn, index_of, point_at, points, vertex_of, Cell, Colour, clear, play, HasUnreaching, has_unreaching, stone_of, same_cell, Grid, cell_at, with_cell, empty_grid, Leads, Reaches, reaches, Stone, shows, colour_letter, vertex_text, play_command, stone_commands, colouring_commands, Each, ◌≡◌, ◌≢◌, ◌↔◌, ℕ, zero, suc, ◌+◌, ◌*◌, ◌<◌, ◌≤◌, List, [], ◌∷◌, ◌++◌, length, map, filter, Some, Bool, true, false, IsTrue, slice_get, codes, refl, sym, ap, ◌∙◌, arith, subst, inl, inr, ◌⊎◌, cond, length-set, flat_map}
 use Rattle.board_stones.specs.declared.stones.Cell.TheVariants.{Black, White, Empty}
 use Rattle.board_stones.specs.declared.stones.Colour.TheVariants.{Black as BlackPlayer, White as WhitePlayer}
 use Rattle.board_stones.proofs.GridLemmas.{Decides-same_cell}

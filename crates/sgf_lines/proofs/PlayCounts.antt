@@ -1,13 +1,10 @@
 -- How many nodes a run plays for its page: a line adds those of its judged nodes that it doesn't share with the line before it.
-use Rattle.sgf_lines.proofs.Common.{Appends, Appends-trans, cases_Bool, common_steps, flat_map-append, slice_get_within, MemoryFault, PlacesRise, Games, node_count, CursorState, advanced, Line, lines, SinkState, TakesNothing, Unheld, Held, HasPlays, PlaysLine, index_by, judged_nodes, RunFault, Form, IsCutShort, limited, record_of, output, plays_of, plays_in, ArePlaysFor, WritesLines, slice_get_past, next_by}
-use Rattle.std.proofs.Common.{◌≡◌, ℕ, ◌+◌, ◌<◌, ◌≤◌, List, length, take, inl, inr, ap, ◌∙◌, arith, ◌-◌, drop, slice_get, Some, sym, Option, None, Result, Ok, Err, rules, length-drop, take_all, length-take, take-add, true, unwrap_or, append-nil}
+use Rattle.sgf_lines.proofs.Common.{Appends, Appends-trans, cases_Bool, common_steps, flat_map-append, slice_get_within, MemoryFault, PlacesRise, Games, node_count, CursorState, advanced, Line, lines, SinkState, TakesNothing, Unheld, Held, HasPlays, PlaysLine, index_by, judged_nodes, RunFault, Form, IsCutShort, limited, record_of, output, plays_of, plays_in, ArePlaysFor, WritesLines, slice_get_past, next_by, ◌≡◌, ℕ, ◌+◌, ◌<◌, ◌≤◌, List, length, take, inl, inr, ap, ◌∙◌, arith, ◌-◌, drop, slice_get, Some, sym, Option, None, Result, Ok, Err, rules, length-drop, take_all, length-take, take-add, true, unwrap_or, append-nil, get_dropped, get_taken, get_none, Shares, adds_judged, few_judged, page_from, shares_by}
 use Rattle.judged_lines.proofs.Touched.{fewer_in_front}
-use Rattle.judged_lines.proofs.Lists.{get_dropped, get_taken, get_none}
 use Rattle.tree_lines.proofs.LeafLines.{lines_within}
 use Rattle.sgf_lines.proofs.Running.{one_more, cut_in}
 use Rattle.sgf_lines.specs.declared.fault.RunFault.TheVariants.{Read, TooLong, NotSgf, NoSuchLine, Write, Memory}
 use Rattle.judged_lines.specs.declared.over_lines.Before.{Before}
-use Rattle.judged_lines.proofs.StreakPlays.{Shares, adds_judged, few_judged, page_from, shares_by}
 
 -- k lines of the page were written, and the cursor stands after them
 pub record IsSoFar (form : Form) (c : Games) (first limit : ℕ) (old : SinkState) (k : ℕ) (at : CursorState) (now : SinkState) : Type 0 where

@@ -1,9 +1,6 @@
 -- A record in sgf form goes on by sequences, and back.
-use Rattle.sgf_lines.proofs.Common.{concat, take-map, map-append, Node, nodes_before, RiseTo, SequencesState, IsHeldOf, node_text, PiecesState, pushed, closed, cut, sequences_before, unclosed_record, whole_record, common_steps, ◌≡◌, ℕ, ◌+◌, ◌<◌, List, [], ◌∷◌, ◌++◌, length, take, map, slice_get, Some, refl, ap, add-one, arith, rules, flat_map}
+use Rattle.sgf_lines.proofs.Common.{concat, take-map, map-append, Node, nodes_before, RiseTo, SequencesState, IsHeldOf, node_text, PiecesState, pushed, closed, cut, sequences_before, unclosed_record, whole_record, common_steps, ◌≡◌, ℕ, ◌+◌, ◌<◌, List, [], ◌∷◌, ◌++◌, length, take, map, slice_get, Some, refl, ap, add-one, arith, rules, flat_map, by_old, has_front, same_nodes, alike, end_of, front_more}
 use Rattle.tree_lines.specs.declared.sequence_cursor.Front.{Front}
-use Rattle.judged_lines.proofs.Keeping.{by_old, has_front, same_nodes}
-use Rattle.tree_lines.proofs.Fronts.{alike, end_of}
-use Rattle.tree_lines.proofs.Lists.{front_more}
 
 -- one sequence more
 pub record_more : (sequences : List (List Node)) (i : ℕ) (nodes : List Node) → slice_get sequences i ≡ Some nodes

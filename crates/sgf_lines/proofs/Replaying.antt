@@ -1,9 +1,8 @@
 -- A script that has commands leads to the colouring at the end of its line's walk.
-use Rattle.sgf_lines.proofs.Common.{list_any, not-false, or_parts, nat_tests, common_steps, flat_map-append, length-map, length-replicate, list_any-append, Property, Node, Line, Point, IsOn, points, point_value, Cell, Colour, play, has_unreaching, Grid, empty_grid, with_rectangle, Reason, Stone, reason_of, State, set_up, turned, board, game_kind, root_properties, Move, moves, stones, players, first_value, side_in, turn_step, move_step, setup_step, step_by, step, LegalNode, IllegalNode, Walk, before_root, stepped, next, walk, list_row, Engine, no_board, sized, shows, refused, after_command, after_row, after_text, replayed, comment_row, comment_text, play_command, setup_commands, move_commands, node_script, legal_script, leaves_unreaching_by, leaves_unreaching, has_no_commands, board_commands, commands_by, script, ◌≡◌, ℕ, ◌*◌, ◌≤◌, List, [], ◌∷◌, ◌++◌, length, map, fold, Option, Some, None, Bool, true, false, refl, sym, ap, ◌∙◌, arith, subst, cond, append-nil, append_assoc, decimal, Result, Ok, Err, nat_lt, nat_le, ◌&&◌, flat_map, Empty, codes, Each}
+use Rattle.sgf_lines.proofs.Common.{list_any, not-false, or_parts, nat_tests, common_steps, flat_map-append, length-map, length-replicate, list_any-append, Property, Node, Line, Point, IsOn, points, point_value, Cell, Colour, play, has_unreaching, Grid, empty_grid, with_rectangle, Reason, Stone, reason_of, State, set_up, turned, board, game_kind, root_properties, Move, moves, stones, players, first_value, side_in, turn_step, move_step, setup_step, step_by, step, LegalNode, IllegalNode, Walk, before_root, stepped, next, walk, list_row, Engine, no_board, sized, shows, refused, after_command, after_row, after_text, replayed, comment_row, comment_text, play_command, setup_commands, move_commands, node_script, legal_script, leaves_unreaching_by, leaves_unreaching, has_no_commands, board_commands, commands_by, script, ◌≡◌, ℕ, ◌*◌, ◌≤◌, List, [], ◌∷◌, ◌++◌, length, map, fold, Option, Some, None, Bool, true, false, refl, sym, ap, ◌∙◌, arith, subst, cond, append-nil, append_assoc, decimal, Result, Ok, Err, nat_lt, nat_le, ◌&&◌, flat_map, Empty, codes, Each, Stones}
 use Rattle.board_points.specs.declared.vertices.TheConstants.{MAX_VERTEX_SIDE}
 use Rattle.go_board.specs.declared.referee.plays.Play.{Play}
 use Rattle.board_stones.specs.declared.setup_op.SetupOp.{SetupOp}
-use Rattle.judged_lines.specs.NodeContents.{Stones}
 use Rattle.judged_lines.specs.NodeValues.{move_value, operations, last_player}
 use Rattle.judged_lines.specs.Walk.{next_by}
 use Rattle.sgf_lines.proofs.ScriptRows.{IsWithin, Carries, takes_row, takes_nothing, takes_both, takes_comment, takes_text_rows, row_within, decimal_within, within_both, size_reads}

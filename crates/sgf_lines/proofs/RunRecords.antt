@@ -1,7 +1,6 @@
 -- The record that a form made is that of the line before the cursor.
-use Rattle.sgf_lines.proofs.Common.{concat, CursorState, nodes_of, line_before, nodes_before, Line, RiseTo, SequencesState, sequences_of, Verdict, game_kind, root_properties, verdict_of, legal_on, Form, list_row, record_of, comment_row, PiecesState, whole_record, IsRecord, ScriptState, script_of, script_text, row_of, common_steps, ◌≡◌, ℕ, List, ◌++◌, length, Some, ap, ◌∙◌, append_assoc, rules, option_map, codes, arith}
+use Rattle.sgf_lines.proofs.Common.{concat, CursorState, nodes_of, line_before, nodes_before, Line, RiseTo, SequencesState, sequences_of, Verdict, game_kind, root_properties, verdict_of, legal_on, Form, list_row, record_of, comment_row, PiecesState, whole_record, IsRecord, ScriptState, script_of, script_text, row_of, common_steps, ◌≡◌, ℕ, List, ◌++◌, length, Some, ap, ◌∙◌, append_assoc, rules, option_map, codes, arith, parts_text}
 use Rattle.sgf_lines.specs.declared.options.Form.TheVariants.{Sgf as sgf_form, Gtp as gtp_form}
-use Rattle.tree_lines.proofs.Fronts.{parts_text}
 use Rattle.sgf_lines.proofs.Scripts.{script_put}
 
 module _ (at : CursorState) (own : Line) (before : line_before at ≡ Some own) where

@@ -1,6 +1,5 @@
 -- What a run writes, and its answer for each way to end.
-use Rattle.sgf_lines.proofs.Common.{◌≡◌, ℕ, ◌+◌, ◌<◌, List, ◌++◌, length, take, drop, slice_get, Some, Result, Ok, Err, sym, arith, add-one, Option, ap, rules, take-append-drop, length-drop, option_map, OnOk, ◌∙◌, Appends, Appends-trans, common_steps, slice_get_within, MAX_LENGTH, Spells, Games, Line, lines, SequencesState, SinkState, SourceState, HasDelivered, RunFault, Form, Options, IsCutShort, read_failures, IsGood, Answers, write_failures, unread, limited, record_of, output, AnswersPlays, IsRunWithPlays, WritesLines, IsReading, HasReadAll, IsStart}
-use Rattle.judged_lines.proofs.Joins.{more_texts}
+use Rattle.sgf_lines.proofs.Common.{◌≡◌, ℕ, ◌+◌, ◌<◌, List, ◌++◌, length, take, drop, slice_get, Some, Result, Ok, Err, sym, arith, add-one, Option, ap, rules, take-append-drop, length-drop, option_map, OnOk, ◌∙◌, Appends, Appends-trans, common_steps, slice_get_within, MAX_LENGTH, Spells, Games, Line, lines, SequencesState, SinkState, SourceState, HasDelivered, RunFault, Form, Options, IsCutShort, read_failures, IsGood, Answers, write_failures, unread, limited, record_of, output, AnswersPlays, IsRunWithPlays, WritesLines, IsReading, HasReadAll, IsStart, more_texts}
 use Rattle.sgf_tree.specs.Refusal.{IsFaultyWhereNotSgf}
 use Rattle.sgf_tree.specs.declared.fault.ReadFault.{ReadFault}
 use Rattle.sgf_tree.specs.declared.fault.ReadFault.TheVariants.{TooLong as TextTooLong}

@@ -1,11 +1,9 @@
 -- The rows of a script: the words of each, and what a text of whole rows does to the board, whatever follows it.
-use Rattle.std.proofs.Common.{◌≡◌, ℕ, zero, suc, ◌≤◌, ◌/◌, ◌%◌, List, [], ◌∷◌, ◌++◌, Bool, true, false, codes, refl, ap, ◌∙◌, arith, append_assoc, decimal, cond, ◌==◌, ◌-◌, ◌<◌, filter, Option, Some, None, nat_le, ◌&&◌, slice_index, option_map, option_and_then, inl, inr, ◌+◌, rules, flat_map, position}
-use Rattle.sgf_lines.proofs.Common.{slice_split, onto_first, and_parts, cases_eq, common_steps, Line, Point, Vertex, IsOn, column_letters, vertex_of, Colour, Verdict, verdict_text, list_row, Engine, after_row, after_text, before_comment, is_word, words, capital, vertex_named, point_there, point_of, plays_stone, sets_size, size_command, command_of, comment_row, text_rows, colour_letter, vertex_text, stone_command, Each, each_append}
+use Rattle.sgf_lines.proofs.Common.{slice_split, onto_first, and_parts, cases_eq, common_steps, Line, Point, Vertex, IsOn, column_letters, vertex_of, Colour, Verdict, verdict_text, list_row, Engine, after_row, after_text, before_comment, is_word, words, capital, vertex_named, point_there, point_of, plays_stone, sets_size, size_command, command_of, comment_row, text_rows, colour_letter, vertex_text, Each, each_append, ◌≡◌, ℕ, zero, suc, ◌≤◌, ◌/◌, ◌%◌, List, [], ◌∷◌, ◌++◌, Bool, true, false, codes, refl, ap, ◌∙◌, arith, append_assoc, decimal, cond, ◌==◌, ◌-◌, ◌<◌, filter, Option, Some, None, nat_le, ◌&&◌, slice_index, option_map, option_and_then, inl, inr, ◌+◌, rules, flat_map, position, decimal_digit, decimal_step}
 use Rattle.std.specs.Fmt.{digits, digits_onto, digit_glyph}
 use Rattle.std.proofs.lemmas.List.Splits.{slice_split_at, slice_split_none}
 use Rattle.std.proofs.lemmas.List.Elements.{All-from_recursion}
 use Rattle.sgf_properties.specs.Number.{magnitude_of}
-use Rattle.std.proofs.lemmas.Fmt.{decimal_digit, decimal_step}
 
 -- the byte doesn't end a row
 abbrev pub IsWithin : ℕ → Type 0
@@ -188,6 +186,10 @@ size_reads side small =
     ap (λ ls. command_of (codes "boardsize" ∷ filter is_word ls)) (one_word (decimal side) (decimal_solid side))
     ∙ two_words (decimal side) (decimal_is_word side (omega arith))
     ∙ ap size_command (row_names side (omega arith))
+
+-- the command for a stone by its vertex
+abbrev pub stone_command : Colour → Vertex → List ℕ
+stone_command colour vertex = codes "play " ++ colour_letter colour ++ codes " " ++ vertex_text vertex ++ codes "\n"
 
 laid_out : (k : Colour) (v : Vertex) (b : ℕ) (row : List ℕ) → colour_letter k ≡ b ∷ [] → decimal v.row ≡ row
     → stone_command k v ≡ 112 ∷ 108 ∷ 97 ∷ 121 ∷ 32 ∷ b ∷ 32 ∷ v.letter ∷ (row ++ codes "\n")

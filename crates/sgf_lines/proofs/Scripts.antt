@@ -1,6 +1,5 @@
 -- A script goes on by a node, and back to the first ones; and what is put of it.
-use Rattle.std.proofs.Common.{◌≡◌, ℕ, zero, suc, min, List, [], ◌∷◌, ◌++◌, length, take, refl, ap, subst, arith, add-one, append-nil, rules, nat_lt, option_copied, lt-ltb}
-use Rattle.sgf_lines.proofs.Common.{list_any, position_or_len, common_steps, map-append, take-map, length-map, position_or_len_push, Node, Grid, State, GameKind, LegalNode, legal_on, comment_rows, legal_script, text_rows, comment_text, leaves_unreaching, commands_by, step_script, is_unreaching, no_script, said_on, script_back, script_text, script_of}
+use Rattle.sgf_lines.proofs.Common.{list_any, position_or_len, common_steps, map-append, take-map, length-map, position_or_len_push, Node, Grid, State, GameKind, LegalNode, legal_on, comment_rows, legal_script, text_rows, comment_text, leaves_unreaching, commands_by, step_script, is_unreaching, no_script, said_on, script_back, script_text, script_of, ◌≡◌, ℕ, zero, suc, min, List, [], ◌∷◌, ◌++◌, length, take, refl, ap, subst, arith, add-one, append-nil, rules, nat_lt, option_copied, lt-ltb}
 use Rattle.judged_lines.specs.declared.judging.step.LegalStep.{LegalStep}
 use Rattle.judged_lines.specs.Judgement.{IsStepOf, IsLegalStep}
 use Rattle.sgf_lines.proofs.Recordings.{joined}

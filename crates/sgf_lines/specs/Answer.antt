@@ -9,11 +9,10 @@ pub use Rattle.sgf_outline.specs.declared.limit.TheConstants.{MAX_LENGTH}
 use Rattle.sgf_tree.specs.declared.fault.ReadFault.{ReadFault}
 use Rattle.sgf_tree.specs.declared.fault.ReadFault.TheVariants.{TooLong as TextTooLong, NotSgf as TextNotSgf, Memory as TextMemory}
 use Rattle.tree_lines.specs.Lines.{Line, HasNoLineAt}
-use Rattle.sgf_lines.specs.Page.{page}
+use Rattle.sgf_lines.specs.Page.{Options, page}
 use Rattle.sgf_lines.specs.Record.{record_of, output}
 use Rattle.byte_streams.specs.Streams.{SourceState, SinkState, HasDelivered}
 use Rattle.sgf_lines.specs.declared.options.Form.{Form}
-use Rattle.sgf_lines.specs.declared.options.Options.{Options}
 use Rattle.sgf_lines.specs.declared.fault.RunFault.{RunFault}
 use Rattle.sgf_lines.specs.declared.fault.RunFault.TheVariants.{Read, TooLong, NotSgf, NoSuchLine, Write, Memory}
 

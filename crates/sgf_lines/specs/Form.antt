@@ -1,6 +1,6 @@
 -- The forms in which a line of play is written. For each: the word that names it, the record of a line, and whether lines are judged.
 use Rattle.std.specs.Prelude.{ℕ, Bool, true, false, List, [], ◌∷◌, codes}
-use Rattle.sgf_lines.specs.declared.options.Form.{Form}
+pub use Rattle.sgf_lines.specs.declared.options.Form.{Form}
 use Rattle.sgf_lines.specs.declared.options.Form.TheVariants as form
 use Rattle.tree_lines.specs.Lines.{Line}
 use Rattle.sgf_lines.specs.ListRow.{list_record}

@@ -1,9 +1,9 @@
 -- The row of a line: its place, its game, the number of its nodes, and its verdict.
 use Rattle.std.specs.Prelude.{ℕ, if◌then◌else◌, List, ◌++◌, length, codes, decimal}
 use Rattle.go_board.specs.Reason.{word_of}
-use Rattle.judged_lines.specs.declared.verdict.Verdict.{Verdict}
-use Rattle.judged_lines.specs.declared.verdict.Verdict.TheVariants.{Score, Illegal, NotGo, BadSize}
 use Rattle.tree_lines.specs.Lines.{Line, place_of}
+use Rattle.judged_lines.specs.declared.verdict.Verdict.TheVariants.{Score, Illegal, NotGo, BadSize}
+use Rattle.judged_lines.specs.declared.verdict.Verdict.{Verdict}
 use Rattle.judged_lines.specs.Verdict.{verdict}
 
 -- A verdict in words. The scores are Black's, then White's. For an illegal

@@ -2,7 +2,7 @@
 use Rattle.std.specs.Prelude.{ℕ, ◌==◌, if◌then◌else◌, List, [], ◌∷◌, take, Option, Some, None, option_map}
 use Rattle.sgf_outline.specs.Tree.{Games}
 use Rattle.tree_lines.specs.Lines.{Line, lines, place_of}
-use Rattle.sgf_lines.specs.declared.options.Options.{Options}
+pub use Rattle.sgf_lines.specs.declared.options.Options.{Options}
 
 -- the lines that follow the line with this place; None if no line has it
 abbrev pub lines_after : List Line → ℕ → Option (List Line)

@@ -2,8 +2,7 @@
 use Rattle.std.specs.Prelude.{ℕ, List}
 use Rattle.std.specs.List.{flat_map}
 pub use Rattle.sgf_outline.specs.Written.{value_text, property_text, node_text}
-use Rattle.sgf_lines.specs.declared.options.Form.{Form}
-use Rattle.sgf_lines.specs.Form.{entry_of}
+use Rattle.sgf_lines.specs.Form.{Form, entry_of}
 use Rattle.tree_lines.specs.Lines.{Line}
 pub use Rattle.sgf_lines.specs.SgfRecord.{sgf_record}
 

@@ -4,13 +4,13 @@ use Rattle.std.specs.Prelude.{ℕ, Bool, true, false, ◌-◌, ◌==◌, ◌||�
 use Rattle.std.specs.List.{slice_split, position}
 use Rattle.sgf_properties.specs.Bytes.{space, line_feed, capital_a, small_a, small_z}
 use Rattle.sgf_properties.specs.Number.{magnitude_of}
-use Rattle.board_stones.specs.declared.stones.Cell.TheVariants.{Empty}
-use Rattle.board_stones.specs.declared.stones.Colour.{Colour}
 use Rattle.board_stones.specs.declared.stones.Colour.TheVariants.{Black, White}
 use Rattle.board_points.specs.declared.points.Point.{Point}
 use Rattle.board_points.specs.declared.vertices.Vertex.{Vertex}
 use Rattle.board_points.specs.declared.vertices.TheConstants.{MAX_VERTEX_SIDE}
+use Rattle.board_stones.specs.declared.stones.Colour.{Colour}
 use Rattle.board_stones.specs.Colour.{same_cell}
+use Rattle.board_stones.specs.declared.stones.Cell.TheVariants.{Empty}
 use Rattle.board_stones.specs.Grid.{Grid, cell_at, empty_grid}
 use Rattle.board_stones.specs.Clearing.{play}
 use Rattle.board_points.specs.Vertex.{column_letters}

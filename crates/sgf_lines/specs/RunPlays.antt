@@ -4,8 +4,7 @@ use Rattle.tree_lines.specs.Lines.{Line}
 use Rattle.judged_lines.specs.Plays.{all_judged_places}
 use Rattle.byte_streams.specs.Streams.{SourceState, SinkState}
 use Rattle.sgf_lines.specs.Answer.{IsGood, IsRun}
-use Rattle.sgf_lines.specs.declared.options.Form.{Form}
-use Rattle.sgf_lines.specs.Form.{entry_of}
+use Rattle.sgf_lines.specs.Form.{Form, entry_of}
 use Rattle.sgf_lines.specs.declared.options.Options.{Options}
 use Rattle.sgf_lines.specs.declared.fault.RunFault.{RunFault}
 use Rattle.sgf_lines.specs.declared.fault.RunFault.TheVariants.{Read, TooLong, NotSgf, NoSuchLine, Write, Memory}

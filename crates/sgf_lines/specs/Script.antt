@@ -4,18 +4,18 @@ use Rattle.std.specs.List.{flat_map, list_any, slice_split}
 use Rattle.sgf_outline.specs.Tree.{Node}
 use Rattle.sgf_properties.specs.Bytes.{line_feed}
 use Rattle.sgf_properties.specs.Text.{text_of}
-use Rattle.board_stones.specs.declared.stones.Colour.{Colour}
 use Rattle.board_stones.specs.declared.stones.Colour.TheVariants.{Black, White}
-use Rattle.board_points.specs.declared.points.Point.{Point}
-use Rattle.go_board.specs.declared.referee.plays.Play.{Play}
-use Rattle.go_board.specs.declared.referee.plays.Play.TheVariants.{Pass, Stone}
 use Rattle.board_points.specs.declared.vertices.Vertex.{Vertex}
 use Rattle.board_points.specs.declared.vertices.TheConstants.{MAX_VERTEX_SIDE}
+use Rattle.board_stones.specs.declared.stones.Colour.{Colour}
 use Rattle.board_stones.specs.Colour.{stone_of, same_cell}
+use Rattle.board_points.specs.declared.points.Point.{Point}
 use Rattle.board_points.specs.Point.{points}
 use Rattle.board_stones.specs.Grid.{Grid, cell_at}
 use Rattle.board_stones.specs.Clearing.{has_unreaching}
 use Rattle.board_points.specs.Vertex.{vertex_of}
+use Rattle.go_board.specs.declared.referee.plays.Play.TheVariants.{Pass, Stone}
+use Rattle.go_board.specs.declared.referee.plays.Play.{Play}
 use Rattle.go_board.specs.State.{State}
 use Rattle.tree_lines.specs.Lines.{Line}
 use Rattle.judged_lines.specs.NodeContents.{Move, Stones, moves, stones, first_value}

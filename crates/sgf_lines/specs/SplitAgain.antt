@@ -4,9 +4,9 @@ use Rattle.std.specs.Prelude.{◌≡◌, ℕ, Bool, List, Some, slice_get}
 use Rattle.std.specs.List.{AllZip}
 use Rattle.sgf_outline.specs.Tree.{Node}
 use Rattle.go_board.specs.declared.reason.Reason.{Reason}
-use Rattle.judged_lines.specs.declared.verdict.Verdict.{Verdict}
-use Rattle.judged_lines.specs.declared.verdict.Verdict.TheVariants.{Score, Illegal, NotGo, BadSize}
 use Rattle.tree_lines.specs.Lines.{Line}
+use Rattle.judged_lines.specs.declared.verdict.Verdict.TheVariants.{Score, Illegal, NotGo, BadSize}
+use Rattle.judged_lines.specs.declared.verdict.Verdict.{Verdict}
 use Rattle.judged_lines.specs.Verdict.{verdict}
 
 -- two nodes have the same properties

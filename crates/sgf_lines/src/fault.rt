@@ -9,25 +9,20 @@ use thiserror::Error;
 /// Why a run ended before it had done all that was asked.
 #[derive(Clone, Copy, Debug, PartialEq, Eq, Error)]
 pub enum RunFault {
-    /// The source failed.
-    /// Nothing was written.
+    /// The source failed. Nothing was written.
     #[error("read failed")]
     Read,
 
-    /// The source gave more than `sgf_tree::MAX_LENGTH` bytes.
-    /// Nothing was written.
+    /// The source gave more than `sgf_tree::MAX_LENGTH` bytes. Nothing was written.
     #[error("input is longer than {MAX_LENGTH} bytes")]
     TooLong,
 
-    /// The `len` bytes that the source gave spell no collection (SGF FF[4], EBNF).
-    /// The first `at` bytes are the beginning of some text of the grammar, and no
-    /// more of the bytes are. So if `at` is `len`, the input ends too early.
-    /// Nothing was written.
+    /// The `len` bytes that the source gave spell no collection (SGF FF[4], EBNF). The first `at` bytes are the beginning of some text of
+    /// the grammar, and no more of the bytes are. So if `at` is `len`, the input ends too early. Nothing was written.
     #[error("byte {at}: {}", wrong_there(*.at, *.len))]
     NotSgf { at: usize, len: usize },
 
-    /// No line has the place that was asked for.
-    /// Nothing was written.
+    /// No line has the place that was asked for. Nothing was written.
     #[error("no line ends at {place}")]
     NoSuchLine { place: u64 },
 
@@ -36,8 +31,7 @@ pub enum RunFault {
     #[error("write failed")]
     Write { lines: u64 },
 
-    /// Memory was refused.
-    /// The sink has taken exactly the records of the first `lines` lines, and wasn't flushed.
+    /// Memory was refused. The sink has taken exactly the records of the first `lines` lines, and wasn't flushed.
     #[error("out of memory")]
     Memory { lines: u64 },
 }

@@ -6,8 +6,7 @@ ghost use Rattle.sgf_tree.specs.Appending.{raised, BeginsWithByteOrderMark};
 ghost use Rattle.sgf_outline.specs.Tree.{Games, game_count, node_count, joined};
 ghost use Rattle.sgf_outline.specs.Spelling.{Spells};
 ghost use Rattle.tree_lines.specs.Lines.{Line, lines, place_of};
-ghost use Rattle.sgf_lines.specs.Page.{page};
-ghost use Rattle.sgf_lines.specs.declared.options.Options.{Options};
+ghost use Rattle.sgf_lines.specs.Page.{Options, page};
 ghost use Rattle.judged_lines.specs.Plays.{touched_places, all_judged_places, node_places};
 ghost use Rattle.sgf_lines.specs.declared.options.Form.TheVariants.{List as list_form, Sgf as sgf_form};
 ghost use Rattle.sgf_lines.specs.Appending.{raised_record};
@@ -34,8 +33,7 @@ pub fn again()
 /// by its place in the output. So a library may be split first and judged later.
 pub fn kept()
     ensures { (games others : Games) (text : List ℕ) → Spells games text → (options : Options) (asked : List Line)
-        → page options games ≡ Some asked → asked ≢ [] → Spells others (output sgf_form asked)
-        → AllZip IsKept asked (lines others) }
+        → page options games ≡ Some asked → asked ≢ [] → Spells others (output sgf_form asked) → AllZip IsKept asked (lines others) }
 {
     sgf_tree::laws::one();
 }
@@ -47,11 +45,9 @@ pub fn kept()
 pub fn append()
     ensures spelled { (games others : Games) (text later : List ℕ) → Spells games text → Spells others later
         → ¬ BeginsWithByteOrderMark later → Spells (joined games (raised (length text) others)) (text ++ later) }
-    ensures rows { (games others : Games) (text later : List ℕ) → Spells games text → Spells others later
-        → ¬ BeginsWithByteOrderMark later
+    ensures rows { (games others : Games) (text later : List ℕ) → Spells games text → Spells others later → ¬ BeginsWithByteOrderMark later
         → flat_map (record_of list_form) (lines (joined games (raised (length text) others)))
-        ≡ flat_map (record_of list_form) (lines games)
-        ++ flat_map (raised_record (length text) (game_count games)) (lines others) }
+        ≡ flat_map (record_of list_form) (lines games) ++ flat_map (raised_record (length text) (game_count games)) (lines others) }
 {
     sgf_tree::laws::append();
 }
@@ -59,8 +55,7 @@ pub fn append()
 /// The nodes on the lines of a collection, each taken once, are all its nodes, in file order. A page has at most as many judged
 /// nodes as there are nodes on its lines, and at most as many as the collection has nodes. So no run plays more nodes.
 pub fn touched()
-    ensures places { (games : Games) (text : List ℕ) → Spells games text
-        → touched_places (lines games) ≡ node_places games }
+    ensures places { (games : Games) (text : List ℕ) → Spells games text → touched_places (lines games) ≡ node_places games }
     ensures plays { (games : Games) (text : List ℕ) → Spells games text → (options : Options) (asked : List Line)
         → page options games ≡ Some asked → length (all_judged_places asked) ≤ node_count games }
     ensures page { (asked : List Line) → length (all_judged_places asked) ≤ length (touched_places asked) }
@@ -86,8 +81,7 @@ pub fn pages()
 /// So an engine that plays stones by the same rules shows the position that was judged.
 pub fn replay()
     ensures { (line : Line) (side : ℕ) → game_kind (root_properties line.nodes) ≡ board side
-        → has_no_commands side (walk side line.nodes) ≡ false
-        → replayed (script line) ≡ shows (walk side line.nodes).state.colouring }
+        → has_no_commands side (walk side line.nodes) ≡ false → replayed (script line) ≡ shows (walk side line.nodes).state.colouring }
 {
     go_board::laws::listing();
     go_board::laws::colouring();

@@ -18,8 +18,7 @@
 //! }
 //! ```
 //!
-//! The loops end because each pass leaves one line fewer. (`lines_in_memory` has the whole loops, with their proofs. Here are the measures
-//! of the two labelled loops.)
+//! The loops end because each pass leaves one line fewer. (`lines_in_memory` has the loops and their proofs. Here are their measures.)
 //!
 //! ```text
 //! decreases-lines l = length (lines l.cursor.games) - l.cursor.index
@@ -49,8 +48,8 @@
 //! | PLACE, GAME and NODES of a row | `SequenceCursor::place`, `SequenceCursor::game`, `SequenceCursor::len` of `tree_lines` (`sequence_cursor`) |
 //! | a row; the row of counts | `TextRow::lay_out` (`form/text_row`); `write_counts` (`counting`); the counts: `read_extent` of `sgf_tree` (`reader`) |
 //! | what a node is; which games are judged; the reasons of a node; the verdict of a line; that a script stops before an illegal node | the table of `judged_lines` |
-//! | which lines have no commands: not judged, or over side 25; a setup leaves a stone without a liberty | `Script::keep`; `leaves_unreaching`, `Script::text` (`form/script`) |
-//! | a script; a node's commands | `Script::begin`, `Script::say`, `Script::text` (`form/script`); `push_step` (`form/commands`) |
+//! | which lines have no commands: not judged, or over side 25; a setup leaves a stone without a liberty | `Script::keep`; `Script::say`, `Script::text` (`form/script`) |
+//! | a script; a node's commands | `Script::keep`, `Script::say`, `Script::text` (`form/script`); `push_step` (`form/commands`) |
 //! | a game without variations | `SgfForm::follow` (`form/sgf`); its nodes: `Outline::push_sequence` of `sgf_outline` (`outline`); what it leaves out: `Segment::then` of `sgf_outline` (`layout`), `copy_capitals` of `sgf_tree` (`reader/properties`) |
 //!
 //! A run reads from a [`Source`] and writes to a [`Sink`], both of the crate `byte_streams`.

@@ -52,8 +52,7 @@ pub fn split<S: Source, T: Sink>(
 ) -> Result<u64, RunFault>
     requires source_countable { (S.state source.old).failures < u64.MAX }
     requires sink_countable { (T.state sink.old).failures < u64.MAX }
-    ensures runs { IsRun options.now (S.state source.old) (S.state source.new)
-        (T.state sink.old) (T.state sink.new) result }
+    ensures runs { IsRun options.now (S.state source.old) (S.state source.new) (T.state sink.old) (T.state sink.new) result }
     ensures one_end { S.end_answers source.new ≤ S.end_answers source.old + 1 }
 {
     let mut plays = Plays::new();
@@ -115,15 +114,13 @@ fn split_text<T: Sink>(
     write_in(alloc, cursor, options.form, limit, sink, plays)
 }
 
-/// Appends all that a source gives to an empty text. The buffer is this function's own, so it is set to zeros only for a source that
-/// needs it.
+/// Appends all that a source gives to an empty text. The buffer is this function's own, so it is zeroed only for a source that needs it.
 #[inline(never)]
 pub(crate) fn read_all<S: Source>(source: &mut S, text: &mut Vec<u8>) -> Result<(), RunFault>
     requires countable { (S.state source.old).failures < u64.MAX }
     requires empty { text.old.items ≡ [] }
     ensures answer { IsReading (S.state source.old) (S.state source.new) text.new.items result }
-    ensures failures { (S.state source.new).failures
-        ≡ (S.state source.old).failures + read_failures result }
+    ensures failures { (S.state source.new).failures ≡ (S.state source.old).failures + read_failures result }
     ensures one_end { S.end_answers source.new ≤ S.end_answers source.old + 1 }
 {
     let mut chunk = [0u8; CHUNK];

@@ -6,10 +6,10 @@ use Rattle.sgf_tree.specs.Refusal.{IsFaultyAt}
 use Rattle.go_board.specs.declared.reason.Reason.{Reason}
 use Rattle.go_board.specs.Reason.{rank_of}
 use Rattle.tree_lines.specs.Lines.{HasNoLineAt}
+use Rattle.judged_lines.specs.declared.verdict.Verdict.TheVariants.{Score, Illegal, NotGo, BadSize}
+use Rattle.judged_lines.specs.declared.verdict.Verdict.{Verdict}
 use Rattle.judged_lines.specs.Verdict.{IsVerdictOf}
 pub use Rattle.sgf_lines.specs.Answer.{MAX_LENGTH}
-use Rattle.judged_lines.specs.declared.verdict.Verdict.{Verdict}
-use Rattle.judged_lines.specs.declared.verdict.Verdict.TheVariants.{Score, Illegal, NotGo, BadSize}
 use Rattle.sgf_lines_c.specs.declared.answer.JudgeAnswer.{JudgeAnswer}
 use Rattle.sgf_lines_c.specs.declared.status.Status.{Status}
 use Rattle.sgf_lines_c.specs.declared.status.Status.TheVariants.{Done, NotSgf, EndsEarly, TooLong, NoSuchLine, UnknownForm, RoomTooSmall, OutOfMemory}

@@ -1,7 +1,6 @@
 //! What the three calls report to the caller.
 
 ghost use Rattle.std.specs.Prelude.{◌≡◌};
-ghost use Rattle.sgf_lines_c.specs.CountAnswer.{fault_told};
 ghost use Rattle.sgf_lines_c.specs.JudgeAnswer.{reason_number as number_of, verdict_told, no_verdict};
 
 use go_board::Reason;
@@ -11,8 +10,7 @@ use sgf_lines::Verdict;
 #[repr(C)]
 #[derive(Clone, Copy)]
 pub struct Answer {
-    /// After `Done` and `RoomTooSmall`: the number of records, one for each line. After
-    /// `OutOfMemory`: the number of records that there was memory for.
+    /// After `Done` and `RoomTooSmall`: the number of records, one per line. After `OutOfMemory`: how many there was memory for.
     pub lines: u64,
     /// After `Done` and `RoomTooSmall`: how many bytes the records have.
     pub bytes: u64,
@@ -35,26 +33,11 @@ pub struct CountAnswer {
     pub at: u64,
 }
 
-impl CountAnswer {
-    /// An answer that has only `at`.
-    pub(crate) fn at(at: u64) -> CountAnswer
-        ensures { result ≡ fault_told at }
-    {
-        CountAnswer {
-            games: 0,
-            nodes: 0,
-            lines: 0,
-            at,
-        }
-    }
-}
-
 /// What `sgf_lines_judge` reports. A number that has no meaning for the status or the verdict is 0.
 #[repr(C)]
 #[derive(Clone, Copy)]
 pub struct JudgeAnswer {
-    /// The verdict: 1 for a score, 2 for an illegal node, 3 if the game isn't
-    /// Go, 4 if the board isn't a square of 1 to 52 points a side.
+    /// The verdict: 1 for a score, 2 for an illegal node, 3 if the game isn't Go, 4 if the board isn't a square of 1 to 52 points a side.
     pub verdict: u32,
     /// Why the node is illegal: the number of the reason, from 1 in the order of checking.
     pub reason: u32,

@@ -16,8 +16,7 @@ pub struct Asked {
     pub has_after: bool,
     /// Whether `limit` counts; if not, `limit` is ignored.
     pub has_limit: bool,
-    /// Keeps only the lines that follow the line with this place. A line's place
-    /// is the offset in bytes, from 0, of the `;` of its last node.
+    /// Keeps only the lines after the line with this place. A line's place is the offset in bytes, from 0, of the `;` of its last node.
     pub after: u64,
     /// Keeps at most this many of those lines, the first ones.
     pub limit: u64,

@@ -31,7 +31,13 @@ pub extern "C" fn sgf_lines_count(alloc: Global, text: &[u8], answer: &mut Count
         ),
         Err(fault) => {
             let (status, told) = refused(fault);
-            (status, CountAnswer::at(told.at))
+            let told = CountAnswer {
+                games: 0,
+                nodes: 0,
+                lines: 0,
+                at: told.at,
+            };
+            (status, told)
         }
     };
     *answer = told;

@@ -48,8 +48,7 @@ fn judge_text(alloc: Global, text: &[u8], place: u64) -> (Status, JudgeAnswer)
 
 /// Judges the line of a collection that has this place.
 fn judge_line(alloc: Global, outline: &Outline<'_>, place: u64) -> (Status, JudgeAnswer)
-    ensures { (text : List ℕ) → length text ≤ MAX_LENGTH → Spells outline.now text
-        → Says text place result.1 result.0 }
+    ensures { (text : List ℕ) → length text ≤ MAX_LENGTH → Spells outline.now text → Says text place result.1 result.0 }
 {
     match judge_at(alloc, outline, place) {
         Ok(verdict) => (Status::Done, JudgeAnswer::of(verdict)),

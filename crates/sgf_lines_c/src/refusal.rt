@@ -20,10 +20,6 @@ pub(crate) fn refused(fault: RunFault) -> (Status, Answer)
         RunFault::Write { lines } | RunFault::Memory { lines } => (Status::OutOfMemory, lines, 0),
         RunFault::Read => (Status::OutOfMemory, 0, 0),
     };
-    let told = Answer {
-        lines,
-        bytes: 0,
-        at,
-    };
-    (status, told)
+    let bytes = 0;
+    (status, Answer { lines, bytes, at })
 }

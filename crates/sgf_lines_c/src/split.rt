@@ -15,8 +15,7 @@ use std::alloc::Global;
 /// Splits the collection that the text spells (SGF FF[4], EBNF). Writes the records of the lines asked for to the front of the
 /// room, and returns the number of a `Status`.
 ///
-/// - `Done`: the records are at the front of the room, and the rest of it is
-///   unchanged. `lines` is the number of records, `bytes` their length.
+/// - `Done`: the records are at the front of the room, and the rest of it is unchanged. `lines` is their number, `bytes` their length.
 /// - `RoomTooSmall`: the same two numbers. So `bytes` is the room that the records need.
 /// - `NotSgf`: `at` is the offset in bytes, from 0, of the first faulty byte.
 /// - `EndsEarly`: `at` is the length of the text.

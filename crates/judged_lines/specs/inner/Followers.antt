@@ -6,9 +6,7 @@ use Rattle.sgf_outline.specs.inner.TreeCode.{games_code}
 use Rattle.tree_lines.specs.Cursor.{CursorState}
 use Rattle.judged_lines.specs.Follower.{FollowerState, lines_judged}
 use Rattle.judged_lines.specs.Plays.{all_judged_places}
-use Rattle.judged_lines.specs.declared.over_lines.Before.{Before}
-use Rattle.judged_lines.specs.declared.over_lines.Before.TheVariants.{Unheld, Held, Refused}
-use Rattle.judged_lines.specs.GoingOn.{StandsBy, index_by}
+use Rattle.judged_lines.specs.GoingOn.{Unheld, Held, Refused, Before, StandsBy, index_by}
 use Rattle.tree_lines.specs.Following.{nodes_before}
 
 abbrev pub state_by : Before → CursorState → ℕ → FollowerState

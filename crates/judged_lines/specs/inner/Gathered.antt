@@ -58,19 +58,14 @@ IsSetup side (Meant player) ops stones players =
     (operations stones side ≡ Some ops) × (last_player None players ≡ Some player) × (0 < length stones + length players)
 IsSetup side Faulty ops stones players = (operations stones side ≡ None) ⊎ (last_player None players ≡ None)
 
--- a setup with more stones, by whether each of these names a rectangle of the board
-abbrev pub setup_with_stones : Setup → Bool → Setup
-setup_with_stones setup false = Faulty
-setup_with_stones NoSetup true = Meant None
-setup_with_stones (Meant player) true = Meant player
-setup_with_stones Faulty true = Faulty
-
--- what a setup becomes with the values of one more PL: Some has the last player that they name, None means that one names no player
-abbrev pub setup_with_player : Setup → Option Colour → Setup
-setup_with_player setup None = Faulty
-setup_with_player NoSetup (Some player) = Meant (Some player)
-setup_with_player (Meant before) (Some player) = Meant (Some player)
-setup_with_player Faulty (Some player) = Faulty
+-- what a setup becomes with the values of one more property: None means that one of them names neither a rectangle of the board nor a
+-- player; Some has the last player that they name, if there is one
+abbrev pub setup_with : Setup → Option (Option Colour) → Setup
+setup_with setup None = Faulty
+setup_with NoSetup (Some last) = Meant last
+setup_with (Meant before) (Some None) = Meant before
+setup_with (Meant before) (Some (Some player)) = Meant (Some player)
+setup_with Faulty (Some last) = Faulty
 
 -- Either the operations of the stones were appended to `old`, or some of the stones name no rectangle of the board.
 pub record AddsRectangles (side : ℕ) (stones : List Stones) (old new : List SetupOp) (good : Bool) : Type 0 where

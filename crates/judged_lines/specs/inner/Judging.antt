@@ -10,9 +10,7 @@ use Rattle.go_board.specs.State.{State, States, followed_by}
 use Rattle.judged_lines.specs.JudgedGames.{GameKind, not_go, bad_size, board}
 use Rattle.judged_lines.specs.Step.{step}
 use Rattle.judged_lines.specs.Walk.{LegalNode}
-use Rattle.judged_lines.specs.Verdict.{score_in}
-use Rattle.judged_lines.specs.declared.verdict.Verdict.{Verdict}
-use Rattle.judged_lines.specs.declared.verdict.Verdict.TheVariants.{NotGo, BadSize}
+use Rattle.judged_lines.specs.Verdict.{NotGo, BadSize, Verdict, score_in}
 use Rattle.judged_lines.specs.declared.judging.step.LegalStep.{LegalStep}
 use Rattle.judged_lines.specs.Judgement.{Judgement, unjudged, judged, IsStepOf}
 

@@ -1,16 +1,16 @@
 //! What a node holds for the referee and for a script: moves, stones and players (SGF FF[4], move and setup properties), and a comment. It
 //! is gathered in one pass over the node's properties. What raw values say on a board stands here, too (SGF FF[4], "Move" and "Color").
 
-ghost use Rattle.std.specs.Prelude.{◌≡◌, ◌∷◌, ◌++◌, [], ℕ, List, Option, IfOk, IfSome, OnOk, option_map, Some};
-ghost use Rattle.sgf_outline.specs.Tree.{Property, lone_property, told_property, values};
+ghost use Rattle.std.specs.Prelude.{◌≡◌, ◌∷◌, ◌++◌, [], ℕ, List, Option, IfOk, IfSome, IsSome, OnOk};
+ghost use Rattle.sgf_outline.specs.Tree.{Property, lone_property, values};
 ghost use Rattle.board_stones.specs.declared.stones.Colour.{Colour};
 ghost use Rattle.go_board.specs.State.{IsPlayOn};
 ghost use Rattle.judged_lines.specs.NodeContents.{Move, moves_by, stones_of};
 ghost use Rattle.judged_lines.specs.NodeValues.{last_player as last_player_rule, move_value as move_value_rule, player_value as player_value_rule};
-ghost use Rattle.judged_lines.specs.inner.Gathered.{AreMoves, AddsRectangles, IsGathered, kind_of as kind_of_rule, setup_with_stones, setup_with_player};
+ghost use Rattle.judged_lines.specs.inner.Gathered.{AreMoves, AddsRectangles, IsGathered, kind_of as kind_of_rule, setup_with};
 
 use go_board::{Cell, Colour, Play, SetupOp, Size, point, rect};
-use sgf_tree::{MemoryFault, PropRef, SequenceNodes};
+use sgf_tree::{MemoryFault, PropRef};
 
 /// The names of two letters that `kind_of` knows. A node that is recognized at a glance has none of them (`SequenceNodes::next`).
 pub(crate) const NEEDED_NAMES: [[u8; 2]; 4] = [*b"AB", *b"AW", *b"AE", *b"PL"];
@@ -57,29 +57,6 @@ pub(crate) enum Kind {
     Comment,
 }
 
-/// What a node holds, on a board of that size. `front` is its first property, if it was recognized: its letter and its only raw value. Its
-/// other properties are still left in `nodes`, and are taken off. Unless the setup is faulty, `operations` becomes the operations that the
-/// node's values of AB, AW and AE name, in order.
-pub(crate) fn gathered<'a>(
-    front: Option<(u8, &'a [u8])>,
-    nodes: &mut SequenceNodes<'_, 'a>,
-    size: Size,
-    operations: &mut Vec<SetupOp>,
-) -> Result<Contents<'a>, MemoryFault>
-    ensures gathered { IfOk result (IsGathered size (told_property front.entry ++ nodes.old.properties) operations.new.items) }
-    ensures left { nodes.new.nodes ≡ nodes.old.nodes }
-{
-    operations.clear();
-    let mut contents = match front {
-        Some((letter, raw)) => Contents::of_lone(letter, raw),
-        None => Contents::nothing(),
-    };
-    while let Some(property) = nodes.next_property() {
-        contents.take(&property, size, operations)?;
-    }
-    Ok(contents)
-}
-
 impl<'a> Contents<'a> {
     /// The contents of a node without properties.
     pub(crate) fn nothing() -> Contents<'a>
@@ -96,32 +73,22 @@ impl<'a> Contents<'a> {
     pub(crate) fn of_lone(letter: u8, raw: &'a [u8]) -> Contents<'a>
         ensures { (side : ℕ) → IsGathered side (lone_property letter raw.now ∷ []) [] result }
     {
+        let mut contents = Contents {
+            moves: Moves::Nothing,
+            setup: Setup::Nothing,
+            comment: None,
+        };
         match letter {
-            b'B' => Contents {
-                moves: Moves::One(Colour::Black, raw),
-                setup: Setup::Nothing,
-                comment: None,
-            },
-            b'W' => Contents {
-                moves: Moves::One(Colour::White, raw),
-                setup: Setup::Nothing,
-                comment: None,
-            },
-            b'C' => Contents {
-                moves: Moves::Nothing,
-                setup: Setup::Nothing,
-                comment: Some(raw),
-            },
-            _ => Contents {
-                moves: Moves::Nothing,
-                setup: Setup::Nothing,
-                comment: None,
-            },
+            b'B' => contents.moves = Moves::One(Colour::Black, raw),
+            b'W' => contents.moves = Moves::One(Colour::White, raw),
+            b'C' => contents.comment = Some(raw),
+            _ => {}
         }
+        contents
     }
 
-    /// Adds what a property holds.
-    fn take(
+    /// Adds what a property holds, on a board of that size. Unless the setup is faulty, `operations` has those of the stones, in order.
+    pub(crate) fn take(
         &mut self,
         property: &PropRef<'a>,
         size: Size,
@@ -134,9 +101,9 @@ impl<'a> Contents<'a> {
             Some(Kind::Move(colour)) => self.moves = with_moves(self.moves, colour, property),
             Some(Kind::Stones(cell)) => {
                 let good = push_rectangles(cell, property, size, operations)?;
-                self.setup = with_stones(self.setup, good);
+                self.setup = with_values(self.setup, good.then_some(None));
             }
-            Some(Kind::Player) => self.setup = with_player(self.setup, last_player(property)),
+            Some(Kind::Player) => self.setup = with_values(self.setup, last_player(property)),
             Some(Kind::Comment) => self.comment = self.comment.or(Some(property.value(0))),
             None => {}
         }
@@ -179,42 +146,32 @@ fn push_rectangles(
     Ok(true)
 }
 
-/// A setup with more stones. `good` says whether each of them names a rectangle of the board.
-fn with_stones(setup: Setup, good: bool) -> Setup
-    ensures { result ≡ setup_with_stones setup good }
+/// A setup with the values of one more property. `named` is None if one of them names neither a rectangle of the board nor a player. Else
+/// it is the last player that they name, if there is one. This player replaces those before.
+fn with_values(setup: Setup, named: Option<Option<Colour>>) -> Setup
+    ensures { result ≡ setup_with setup named }
 {
-    match (setup, good) {
-        (Setup::Faulty, _) | (_, false) => Setup::Faulty,
-        (Setup::Nothing, true) => Setup::Meant(None),
-        (Setup::Meant(player), true) => Setup::Meant(player),
-    }
-}
-
-/// A setup with more players (a further PL, which replaces those before it). `last` is the last of them; None means that one of the values
-/// names no player.
-fn with_player(setup: Setup, last: Option<Colour>) -> Setup
-    ensures { result ≡ setup_with_player setup last }
-{
-    match (setup, last) {
+    match (setup, named) {
         (Setup::Faulty, _) | (_, None) => Setup::Faulty,
-        (_, Some(player)) => Setup::Meant(Some(player)),
+        (Setup::Meant(player), Some(None)) => Setup::Meant(player),
+        (_, Some(last)) => Setup::Meant(last),
     }
 }
 
 /// The player that the last value of a PL names; None if one of its values names no player.
-fn last_player(property: &PropRef<'_>) -> Option<Colour>
-    ensures { (before : Option Colour) → last_player_rule before (values property.now) ≡ option_map Some result }
+fn last_player(property: &PropRef<'_>) -> Option<Option<Colour>>
+    ensures last { (before : Option Colour) → last_player_rule before (values property.now) ≡ result }
+    ensures some { IfSome result IsSome }
 {
     let mut values = property.iter();
     let mut last = player_value(values.next().unwrap())?;
     while let Some(raw) = values.next() {
         last = player_value(raw)?;
     }
-    Some(last)
+    Some(Some(last))
 }
 
-/// What the values of a property are; None if neither the referee nor a script needs them. So KM, HA, KO, MA, RE and all others have no
-/// effect.
+/// What the values of a property are; None if neither the referee nor a script needs them. So KM, HA, KO, MA, RE and others have no effect.
 fn kind_of(property: &PropRef<'_>) -> Option<Kind>
     ensures { result ≡ kind_of_rule property.now }
 {
@@ -230,8 +187,7 @@ fn kind_of(property: &PropRef<'_>) -> Option<Kind>
     }
 }
 
-/// The play of a move: a pass, or a stone on a point of the board. None for any other raw value. A raw value is a pass if it is empty, or
-/// if it is `tt` on a side of 19 or less.
+/// The play of a move: a stone on a point of the board, or a pass (the empty value, or `tt` on a side of 19 or less). None for all others.
 pub(crate) fn move_value(raw: &[u8], size: Size) -> Option<Play>
     ensures value { result ≡ move_value_rule raw.now size }
     ensures on_board { IfSome result (IsPlayOn size) }

@@ -1,6 +1,5 @@
 //! A judge goes along the nodes of a line, and back to the last node that the next line shares. It keeps the score of a board of its line
-//! once that was asked for. Many lines may end on one board, as lines that differ only in a pass or in an empty node do. Its score isn't
-//! worked out again.
+//! once asked for. Many lines may end on one board, as lines that differ only in a pass or an empty node do. Its score is worked out once.
 
 ghost use Rattle.std.specs.Prelude.{◌≡◌, ◌+◌, ◌<◌, IsFalse, IsTrue, OnOk, OnErr, IfOk, Some, option_copied};
 ghost use Rattle.sgf_outline.specs.Tree.{Node};
@@ -16,8 +15,7 @@ use sgf_tree::{MemoryFault, NextNode, NodeRef, SequenceNodes};
 use std::alloc::Global;
 use std::marker::Model;
 
-/// Judges a line node after node, with one game. It is seen as the
-/// judgement on the line, and the number of nodes that were played.
+/// Judges a line node after node, with one game. It is seen as the judgement on the line, and the number of nodes that were played.
 #[derive(Drop)]
 pub(crate) struct Judge {
     /// None if the game isn't judged. Each node that is legal adds one state.
@@ -82,11 +80,7 @@ impl Judge {
         };
         match &mut self.game {
             // it begins anew in place
-            Some(game) => {
-                let Ok(()) = game.reset(size) else {
-                    return Err(MemoryFault);
-                };
-            }
+            Some(game) => game.reset(size).or(Err(MemoryFault))?,
             None => put_game(*self.operations.allocator(), size, &mut self.game)?,
         }
         self.score = None;
@@ -107,8 +101,7 @@ impl Judge {
         ensures judged { (node : Node) → ComesAs node nodes.old.properties next.entry
             → OnOk result (self.new.judgement ≡ after self.old.judgement node) }
         ensures plays { OnOk result (self.new.plays ≡ self.old.plays + 1) }
-        ensures step { (node : Node) → ComesAs node nodes.old.properties next.entry
-            → IfOk result (IsStepFrom self.old.judgement node) }
+        ensures step { (node : Node) → ComesAs node nodes.old.properties next.entry → IfOk result (IsStepFrom self.old.judgement node) }
         ensures unchanged { OnErr result (self.new ≡ self.old) }
         ensures left { nodes.new.nodes ≡ nodes.old.nodes }
     {
@@ -196,10 +189,7 @@ impl Judge {
     pub(crate) fn board(&self) -> Option<&Board>
         ensures { option_copied result ≡ board_in self.now.judgement }
     {
-        match &self.game {
-            Some(game) => Some(game.board()),
-            None => None,
-        }
+        Some(self.game.as_ref()?.board())
     }
 
     /// Sets the number of nodes that were played to 0.

@@ -14,8 +14,7 @@ use sgf_tree::{Collection, MemoryFault, Outline};
 use std::alloc::Global;
 use tree_lines::{NO_FRONT, SeekFault, SequenceCursor};
 
-/// The verdict of the line that ends in the node with the number `leaf`,
-/// from 0 in file order. The node must be a leaf (`is_leaf`).
+/// The verdict of the line that ends in the node with the number `leaf`, from 0 in file order. The node must be a leaf (`is_leaf`).
 ///
 /// The line is played from its root on a board of its own, by the Tromp-Taylor rules,
 /// with setup by SGF FF[4]. `MemoryFault` comes only if memory was refused.

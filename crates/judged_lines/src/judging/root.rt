@@ -12,9 +12,8 @@ use sgf_tree::{NodeRef, number};
 /// The side of a board if there is no SZ.
 const USUAL_SIDE: i64 = 19;
 
-/// Returns the size of the board of a root's game. If the game isn't judged, returns the verdict of
-/// each of its lines. The game is Go if it has no GM, or if the value is the number 1. If it isn't Go, the verdict is
-/// `NotGo`, even if its size is faulty.
+/// Returns the size of the board of a root's game. If the game isn't judged, returns the verdict of each of its lines. The game is Go if it
+/// has no GM, or if the value is the number 1. If it isn't Go, the verdict is `NotGo`, even if its size is faulty.
 pub(crate) fn board_size(root: &NodeRef<'_, '_>) -> Result<Size, Verdict>
     ensures { result ≡ size_said (game_kind root.now.properties) }
 {

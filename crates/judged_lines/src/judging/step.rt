@@ -7,7 +7,7 @@ ghost use Rattle.judged_lines.specs.inner.Gathered.{IsGathered, ComesAs};
 ghost use Rattle.judged_lines.specs.inner.Judging.{IsStepped};
 ghost use Rattle.judged_lines.specs.Judgement.{IsStepOf};
 
-use crate::judging::contents::{Contents, Moves, Setup, gathered, move_value};
+use crate::judging::contents::{Contents, Moves, Setup, move_value};
 use go_board::{Colour, Past, Play, Reason, Referee, SetupOp, TurnFault};
 use sgf_tree::{NextNode, SequenceNodes};
 
@@ -46,8 +46,7 @@ pub(crate) fn place_of(next: &NextNode<'_>) -> usize
 /// `next` is the node, as `SequenceNodes::next` took it; the properties that are left of it are taken off. `operations` is a buffer.
 ///
 /// If the node is illegal, the first reason is returned. After a refusal the referee is unchanged.
-// Each case has a call of its own, so that what its contents don't hold drops out. With one call, the input `deep` takes 16 percent more
-// instructions.
+// Each case has its own call, so that what its contents don't hold drops out. With one call, the input `deep` takes 16 % more instructions.
 #[inline(always)]
 pub(crate) fn take_step<'a, P: Past>(
     referee: &mut Referee<P>,
@@ -70,8 +69,8 @@ pub(crate) fn take_step<'a, P: Past>(
     }
 }
 
-/// Takes the step of a node of which all is gathered. `front` is its first property, if that was recognized. The other properties are those
-/// left of the nodes.
+/// Takes the step of a node of which all is gathered, in one pass over its properties. `front` is the first of them, if it was recognized:
+/// its letter and its only raw value. The others are still left in `nodes`, and are taken off.
 #[inline(never)]
 fn take_any_step<'a, P: Past>(
     referee: &mut Referee<P>,
@@ -86,16 +85,22 @@ fn take_any_step<'a, P: Past>(
     ensures left { nodes.new.nodes ≡ nodes.old.nodes }
 {
     let size = referee.board().size();
-    let Ok(contents) = gathered(front, nodes, size, operations) else {
-        return Err(TurnFault::Memory);
+    operations.clear();
+    let mut contents = match front {
+        Some((letter, raw)) => Contents::of_lone(letter, raw),
+        None => Contents::nothing(),
     };
+    while let Some(property) = nodes.next_property() {
+        let Ok(()) = contents.take(&property, size, operations) else {
+            return Err(TurnFault::Memory);
+        };
+    }
     take_contents(referee, contents, operations)
 }
 
-/// Takes the step of a node with these contents. `operations` has the operations of the node's stones. The first reason that holds is
-/// given, in this order: `mixed` (a move and a setup, even a faulty one), `two-moves`, `bad-setup`, which `gathered` found,
-/// `bad-point`, and then those of `Referee::turn`. Of the arms only the last must stay last: those of `two-moves` and `bad-setup` are for
-/// nodes that aren't mixed.
+/// Takes the step of a node with these contents. `operations` has those of the node's stones. The first reason that holds is given: `mixed`
+/// (a move and a setup, even a faulty one), `two-moves`, `bad-setup`, which `Contents::take` found, `bad-point`, and then those of
+/// `Referee::turn`. Of the arms only the last must stay last: those of `two-moves` and `bad-setup` are for nodes that aren't mixed.
 #[inline(always)]
 fn take_contents<'a, P: Past>(
     referee: &mut Referee<P>,

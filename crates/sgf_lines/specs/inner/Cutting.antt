@@ -1,14 +1,13 @@
 -- How the stones of a script are appended, point after point.
-use Rattle.std.specs.Prelude.{◌≡◌, ℕ, if◌then◌else◌, List, [], ◌++◌, codes, take}
+use Rattle.std.specs.Prelude.{◌≡◌, ℕ, if◌then◌else◌, List, [], ◌++◌, take}
 use Rattle.std.specs.List.{flat_map}
-use Rattle.board_stones.specs.declared.stones.Colour.{Colour}
-use Rattle.board_points.specs.declared.points.Point.{Point}
 use Rattle.go_board.specs.declared.referee.plays.Play.TheVariants.{Stone}
+use Rattle.board_stones.specs.declared.stones.Colour.{Colour}
 use Rattle.board_stones.specs.Colour.{stone_of, same_cell}
+use Rattle.board_points.specs.declared.points.Point.{Point}
 use Rattle.board_points.specs.Point.{points}
 use Rattle.board_stones.specs.Grid.{Grid, cell_at}
-use Rattle.board_points.specs.declared.vertices.Vertex.{Vertex}
-use Rattle.sgf_lines.specs.Script.{colour_letter, vertex_text, play_command}
+use Rattle.sgf_lines.specs.Script.{play_command}
 
 -- the command for a point, if the point has that colour
 abbrev pub commands_at : Grid → Colour → Point → List ℕ
@@ -19,7 +18,3 @@ commands_at grid colour point =
 abbrev pub AreAppended : Grid → Colour → ℕ → List ℕ → List ℕ → Type 0
 AreAppended grid colour count before text =
     text ≡ before ++ ([] ++ flat_map (commands_at grid colour) (take count (points grid.side)))
-
--- the command for a stone by its vertex
-abbrev pub stone_command : Colour → Vertex → List ℕ
-stone_command colour vertex = codes "play " ++ colour_letter colour ++ codes " " ++ vertex_text vertex ++ codes "\n"

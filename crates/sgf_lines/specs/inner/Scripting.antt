@@ -45,12 +45,6 @@ pub record ScriptState : Type 0 where
 abbrev pub no_script : ScriptState
 no_script = record { text = no_pieces; said = 0 }
 
--- the script before the commands of the root
-abbrev pub script_begun : ℕ → ScriptState
-script_begun side =
-    if nat_lt MAX_VERTEX_SIDE side then no_script
-    else record { text = record { pieces = board_commands side ∷ []; begun = [] }; said = 1 }
-
 -- the script with one more piece; a script without commands stays without
 abbrev pub said_on : ScriptState → Bool → List ℕ → ScriptState
 said_on old unreaching more =

@@ -1,16 +1,15 @@
 //! The commands of a node in the script of a line (Go Text Protocol, version 2).
 //!
 //! `#[inline(always)]` is on a play command, which most nodes add, and on the search for a board's stones, so that it is compiled for each
-//! colour. `#[inline(never)]` is on what few nodes or points need. Without these attributes gtp form takes up to 1.4 percent more
-//! instructions.
+//! colour. `#[inline(never)]` is on what few nodes or points need. Without these attributes gtp form takes up to 1.4 % more instructions.
 
-ghost use Rattle.std.specs.Prelude.{◌≡◌, ℕ, List, [], ◌∷◌, ◌++◌, ◌+◌, ◌≤◌, ◌<◌, ◌*◌, OnOk, option_copied};
+ghost use Rattle.std.specs.Prelude.{◌≡◌, ℕ, List, ◌++◌, ◌+◌, ◌≤◌, ◌<◌, ◌*◌, OnOk};
 ghost use Rattle.board_points.specs.Point.{IsOn};
 ghost use Rattle.go_board.specs.declared.referee.plays.Play.TheVariants.{Stone};
 ghost use Rattle.go_board.specs.State.{IsPlayOn};
 ghost use Rattle.sgf_properties.specs.Text.{text_of};
-ghost use Rattle.sgf_lines.specs.Script.{text_rows, comment_row, comment_text, colour_letter, play_command, stone_commands, colouring_commands};
-ghost use Rattle.sgf_lines.specs.inner.Cutting.{commands_at, AreAppended, stone_command};
+ghost use Rattle.sgf_lines.specs.Script.{text_rows, comment_row, play_command, stone_commands, colouring_commands};
+ghost use Rattle.sgf_lines.specs.inner.Cutting.{AreAppended};
 ghost use Rattle.sgf_lines.specs.inner.Scripting.{IsPlayable, step_script};
 
 use go_board::{Board, Colour, MAX_VERTEX_SIDE, Play, Point, Size, Vertex, vertex};
@@ -36,21 +35,13 @@ pub(crate) fn push_step(
     requires playable { IsPlayable board.now.side step.effect }
     ensures { OnOk result (output.new.items ≡ output.old.items ++ step_script board.now step.entry) }
 {
-    push_comment(step.comment, output)?;
+    if let Some(raw) = step.comment {
+        push_text_of(raw, output)?;
+    }
     match step.effect {
         Effect::Nothing => Ok(()),
         Effect::Stones => push_board(board, output),
         Effect::Play(colour, play) => push_play(board.size(), colour, play, output),
-    }
-}
-
-/// Appends a comment: a row for each piece of its text between line feeds. Appends nothing if there is no comment.
-fn push_comment(comment: Option<&[u8]>, output: &mut Vec<u8>) -> Result<(), MemoryFault>
-    ensures { OnOk result (output.new.items ≡ output.old.items ++ text_rows (comment_text (option_copied comment.entry))) }
-{
-    match comment {
-        Some(raw) => push_text_of(raw, output),
-        None => Ok(()),
     }
 }
 
@@ -130,104 +121,53 @@ fn push_row(board: &Board, row: u8, colour: Colour, output: &mut Vec<u8>) -> Res
         → OnOk result (AreAppended board.now colour ((row + 1) * board.now.side) before output.new.items) }
 {
     'columns: for col in 0..board.size().side() {
-        push_point(board, Point { col, row }, colour, output)?;
+        let point = Point { col, row };
+        if board.at(point) == colour.stone() {
+            push_stone(board.size(), colour, point, output)?;
+        }
     }
     Ok(())
 }
 
-/// Appends the stone on a point, if it has that colour.
-#[inline(always)]
-fn push_point(
-    board: &Board,
-    point: Point,
-    colour: Colour,
-    output: &mut Vec<u8>,
-) -> Result<(), MemoryFault>
-    requires letters { board.now.side ≤ MAX_VERTEX_SIDE }
-    requires on_board { IsOn board.now.side point }
-    ensures { OnOk result (output.new.items ≡ output.old.items ++ commands_at board.now colour point) }
-{
-    if board.at(point) == colour.stone() {
-        push_stone_on(board.size(), colour, point, output)
-    } else {
-        Ok(())
-    }
-}
-
 /// Appends the play command of a stone on a board.
 #[inline(never)]
-fn push_stone_on(
-    size: Size,
-    colour: Colour,
-    point: Point,
-    output: &mut Vec<u8>,
-) -> Result<(), MemoryFault>
+fn push_stone(size: Size, colour: Colour, at: Point, text: &mut Vec<u8>) -> Result<(), MemoryFault>
     requires letters { size ≤ MAX_VERTEX_SIDE }
-    requires on_board { IsOn size point }
-    ensures { OnOk result (output.new.items ≡ output.old.items ++ play_command size colour (Stone point)) }
+    requires on_board { IsOn size at }
+    ensures { OnOk result (text.new.items ≡ text.old.items ++ play_command size colour (Stone at)) }
 {
-    push_play(size, colour, Play::Stone(point), output)
+    push_play(size, colour, Play::Stone(at), text)
 }
 
 /// Appends a play command. Its bytes are laid out first and appended in one call.
 #[inline(always)]
-fn push_play(
-    size: Size,
-    colour: Colour,
-    play: Play,
-    output: &mut Vec<u8>,
-) -> Result<(), MemoryFault>
+fn push_play(size: Size, colour: Colour, play: Play, text: &mut Vec<u8>) -> Result<(), MemoryFault>
     requires letters { size ≤ MAX_VERTEX_SIDE }
     requires on_board { IsPlayOn size play }
-    ensures { OnOk result (output.new.items ≡ output.old.items ++ play_command size colour play) }
+    ensures { OnOk result (text.new.items ≡ text.old.items ++ play_command size colour play) }
 {
-    match play {
-        Play::Pass => {
-            let player = letter_of(colour);
-            push_bytes(
-                &[
-                    b'p', b'l', b'a', b'y', b' ', player, b' ', b'p', b'a', b's', b's', b'\n',
-                ],
-                output,
-            )
-        }
-        Play::Stone(point) => push_stone(colour, vertex(point, size), output),
-    }
-}
-
-/// Appends the play command of a stone.
-#[inline(always)]
-fn push_stone(colour: Colour, vertex: Vertex, output: &mut Vec<u8>) -> Result<(), MemoryFault>
-    requires { vertex.row < 100 }
-    ensures { OnOk result (output.new.items ≡ output.old.items ++ stone_command colour vertex) }
-{
-    let player = letter_of(colour);
-    let column = vertex.letter;
-    let tens = b'0' + vertex.row / 10;
-    let ones = b'0' + vertex.row % 10;
-    if vertex.row < 10 {
-        push_bytes(
-            &[
-                b'p', b'l', b'a', b'y', b' ', player, b' ', column, ones, b'\n',
-            ],
-            output,
-        )
-    } else {
-        push_bytes(
-            &[
-                b'p', b'l', b'a', b'y', b' ', player, b' ', column, tens, ones, b'\n',
-            ],
-            output,
-        )
-    }
-}
-
-/// The letter of a player: `B` or `W`.
-fn letter_of(colour: Colour) -> u8
-    ensures { result ∷ [] ≡ colour_letter colour }
-{
-    match colour {
+    let player = match colour {
         Colour::Black => b'B',
         Colour::White => b'W',
+    };
+    let Play::Stone(point) = play else {
+        let pass = [
+            b'p', b'l', b'a', b'y', b' ', player, b' ', b'p', b'a', b's', b's', b'\n',
+        ];
+        return push_bytes(&pass, text);
+    };
+    let Vertex { letter, row } = vertex(point, size);
+    let tens = b'0' + row / 10;
+    let ones = b'0' + row % 10;
+    if row < 10 {
+        let command = [
+            b'p', b'l', b'a', b'y', b' ', player, b' ', letter, ones, b'\n',
+        ];
+        push_bytes(&command, text)
+    } else {
+        let command = [
+            b'p', b'l', b'a', b'y', b' ', player, b' ', letter, tens, ones, b'\n',
+        ];
+        push_bytes(&command, text)
     }
 }

@@ -21,8 +21,7 @@ const FIRST_BYTES: usize = 4_096;
 /// The number of pieces that there is room for at once.
 const FIRST_PIECES: usize = 256;
 
-/// A text of pieces, one after the other, and an unfinished piece after them. It can be cut
-/// back to any number of its first pieces.
+/// A text of pieces, one after the other, and an unfinished piece after them. It can be cut back to any number of its first pieces.
 #[derive(Drop)]
 pub(crate) struct Pieces {
     text: Vec<u8>,
@@ -91,19 +90,14 @@ impl Pieces {
         Ok(())
     }
 
-    /// Appends to the unfinished piece what a legal step adds to the script of a line; `board` is the board after
-    /// it. After a refusal of memory there are no pieces.
-    pub(crate) fn push_step(
-        &mut self,
-        step: LegalStep<'_>,
-        board: &Board,
-    ) -> Result<(), MemoryFault>
-        requires letters { board.now.side ≤ MAX_VERTEX_SIDE }
-        requires playable { IsPlayable board.now.side step.effect }
-        ensures pushed { OnOk result (self.new ≡ pushed self.old (step_script board.now step.entry)) }
+    /// Appends to the unfinished piece what a step adds to a script; `grid` is the board after it. After refused memory no piece is left.
+    pub(crate) fn push_step(&mut self, step: LegalStep<'_>, grid: &Board) -> Result<(), MemoryFault>
+        requires letters { grid.now.side ≤ MAX_VERTEX_SIDE }
+        requires playable { IsPlayable grid.now.side step.effect }
+        ensures pushed { OnOk result (self.new ≡ pushed self.old (step_script grid.now step.entry)) }
         ensures refused { OnErr result (self.new.pieces ≡ []) }
     {
-        match push_step(step, board, &mut self.text) {
+        match push_step(step, grid, &mut self.text) {
             Ok(()) => Ok(()),
             Err(fault) => {
                 self.ends.clear();

@@ -1,10 +1,10 @@
 //! The script of a line in gtp form.
 
-ghost use Rattle.std.specs.Prelude.{◌≡◌, ◌≤◌, OnOk};
-ghost use Rattle.sgf_lines.specs.inner.Scripting.{is_unreaching, no_script, script_begun, script_of, script_text};
+ghost use Rattle.std.specs.Prelude.{◌≡◌};
+ghost use Rattle.sgf_lines.specs.inner.Scripting.{no_script, script_of, script_text};
 
 use crate::form::pieces::Pieces;
-use go_board::{Board, MAX_VERTEX_SIDE, Size};
+use go_board::{Board, MAX_VERTEX_SIDE};
 use itoa::Buffer;
 use judged_lines::{Effect, LegalStep, StepKeeper};
 use sgf_tree::MemoryFault;
@@ -41,23 +41,6 @@ impl Script {
         }
     }
 
-    /// Begins the commands of a game on a board of that size.
-    fn begin(&mut self, size: Size) -> Result<(), MemoryFault>
-        requires empty { self.old ≡ no_script }
-        requires letters { size ≤ MAX_VERTEX_SIDE }
-        ensures { OnOk result (self.new ≡ script_begun size) }
-    {
-        let mut side = Buffer::new();
-        self.pieces.make_room()?;
-        self.pieces.push(b"boardsize ")?;
-        self.pieces
-            .push(side.format(u64::from(size.side())).as_bytes())?;
-        self.pieces.push(b"\nclear_board\n")?;
-        self.pieces.close()?;
-        self.said = 1;
-        Ok(())
-    }
-
     /// The commands; none if the line can't be written as commands.
     pub(crate) fn text(&self) -> &[u8]
         ensures { result.now ≡ script_text self.now }
@@ -81,10 +64,20 @@ impl StepKeeper for Script {
         }
         self.pieces.cut_back(0);
         self.said = 0;
-        match board {
-            Some(board) if board.size().side() <= MAX_VERTEX_SIDE => self.begin(board.size()),
-            _ => Ok(()),
+        let Some(board) = board else {
+            return Ok(());
+        };
+        let side = board.size().side();
+        if side <= MAX_VERTEX_SIDE {
+            let mut digits = Buffer::new();
+            self.pieces.make_room()?;
+            self.pieces.push(b"boardsize ")?;
+            self.pieces.push(digits.format(u64::from(side)).as_bytes())?;
+            self.pieces.push(b"\nclear_board\n")?;
+            self.pieces.close()?;
+            self.said = 1;
         }
+        Ok(())
     }
 
     fn say(&mut self, step: LegalStep<'_>, board: &Board) -> Result<(), MemoryFault> {
@@ -94,19 +87,10 @@ impl StepKeeper for Script {
         }
         self.pieces.push_step(step, board)?;
         self.pieces.close()?;
-        if self.said == count && !leaves_unreaching(step.effect, board) {
+        let stones = matches!(step.effect, Effect::Stones);
+        if self.said == count && !(stones && board.has_unreaching()) {
             self.said = self.pieces.count();
         }
         Ok(())
-    }
-}
-
-/// Whether the setup of a node with this effect leaves a stone without a liberty.
-fn leaves_unreaching(effect: Effect, board: &Board) -> bool
-    ensures { result ≡ is_unreaching board.now effect }
-{
-    match effect {
-        Effect::Stones => board.has_unreaching(),
-        Effect::Nothing | Effect::Play(..) => false,
     }
 }

@@ -1,10 +1,9 @@
 //! The sgf form: a line's record is a game without variations.
 
-ghost use Rattle.std.specs.Prelude.{◌≡◌, ◌<◌, ◌+◌, ◌++◌, [], OnOk, refl};
+ghost use Rattle.std.specs.Prelude.{◌≡◌, ◌++◌, refl};
 ghost use Rattle.std.specs.List.{concat};
 ghost use Rattle.sgf_lines.specs.declared.options.Form.TheVariants.{Sgf as sgf_form};
-ghost use Rattle.sgf_lines.specs.inner.Recording.{sequences_before, IsRecord, unclosed_record, whole_record};
-ghost use Rattle.sgf_lines.specs.inner.Pieces.{cut};
+ghost use Rattle.sgf_lines.specs.inner.Recording.{sequences_before, IsRecord, whole_record};
 
 use crate::form::LineForm;
 use crate::form::pieces::Pieces;
@@ -31,7 +30,14 @@ impl LineKeeper for SgfForm {
 
     fn follow(&mut self, cursor: &SequenceCursor<'_, '_>, held: Front) -> Result<(), MemoryFault> {
         let end = cursor.sequences();
-        keep(held.sequences, &mut self.record)?;
+        if held.sequences > 0 {
+            self.record.cut_back(held.sequences + 1);
+        } else {
+            self.record.cut_back(0);
+            self.record.make_room()?;
+            self.record.push(b"(")?;
+            self.record.close()?;
+        }
         for index in held.sequences..end {
             self.record.push_sequence(cursor, index)?;
         }
@@ -63,20 +69,4 @@ impl LineForm for SgfForm {
     }
 
     ghost counts_are = { λ count. refl };
-}
-
-/// Keeps the parenthesis and the first `held` sequences of a record. If `held` is 0, begins a new record.
-fn keep(held: usize, kept: &mut Pieces) -> Result<(), MemoryFault>
-    requires { held < usize.MAX }
-    ensures none { held ≡ 0 → OnOk result (kept.new ≡ unclosed_record []) }
-    ensures some { 0 < held → kept.new ≡ cut (held + 1) kept.old }
-{
-    if held > 0 {
-        kept.cut_back(held + 1);
-        return Ok(());
-    }
-    kept.cut_back(0);
-    kept.make_room()?;
-    kept.push(b"(")?;
-    kept.close()
 }

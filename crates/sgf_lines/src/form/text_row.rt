@@ -1,5 +1,4 @@
-//! A text row, such as that of a line, alone or as a comment. It is built from its end to its front, because the digits of a number are
-//! found last to first.
+//! A text row, such as that of a line, alone or as a comment. It is built from its end, as the digits of a number are found last to first.
 
 ghost use Rattle.std.specs.Prelude.{◌≡◌, ◌<◌, ◌≤◌, ◌+◌, Some, [], ◌++◌, length, codes, decimal};
 ghost use Rattle.tree_lines.specs.Lines.{Line};
@@ -81,11 +80,7 @@ impl TextRow {
     {
         match verdict {
             Verdict::Score { black, white, over } => {
-                if over {
-                    self.put(b" over");
-                } else {
-                    self.put(b" open");
-                }
+                self.put(if over { b" over" } else { b" open" });
                 self.put_number(u64::from(white));
                 self.put(b" ");
                 self.put_number(u64::from(black));

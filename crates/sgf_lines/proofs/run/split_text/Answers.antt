@@ -1,5 +1,5 @@
 -- What is said of the text is said of the run, whatever source gave it.
-use Rattle.sgf_lines.proofs.Common.{◌≡◌, take, drop, Err, ap, ◌∙◌, rules, unwrap_or, err_from_is_err_and, Spells, node_count, lines, WritesLines}
+use Rattle.sgf_lines.proofs.Common.{◌≡◌, take, drop, Err, ap, ◌∙◌, rules, unwrap_or, err_from_is_err_and, node_count, lines, WritesLines}
 use Rattle.sgf_lines.proofs.PlayCounts.{for_options}
 use Rattle.sgf_lines.proofs.Running.{no_start_run, unread_run, lines_run}
 use Rattle.sgf_lines.proofs.run.split_text.Goals as goal
@@ -10,21 +10,15 @@ returns-in_err-cursor g c source new_source read = search (rules, err_from_is_er
 pub returns : goal.returns
 returns g c source new_source read =
     let o = c.args.options.now in
-    let text = c.args.text.now in
     let games = c.in-Ok.outline in
     let cursor = c.in_ok-cursor.cursor in
     let sink = g.T.Sink.state c.args.sink.now in
     let new_sink = g.T.Sink.state c.write_in.new.sink in
-    let result = c.write_in.result in
-    let spelled : Spells games text = c.in-Ok.ensures.spelled in
-    let limit : c.unwrap_or-limit.result ≡ unwrap_or c.args.options.now.limit (node_count c.in-Ok.outline) =
-    c.unwrap_or-limit.ensures ∙ ap (unwrap_or c.args.options.now.limit) c.nodes.ensures.count in
     let plays = c.write_in.ensures.answer.0 in
-    let wrote : WritesLines o.form (take c.unwrap_or-limit.result (drop cursor.at.index (lines games))) sink new_sink plays result =
-    rw c.in_ok-cursor.ensures.same at c.write_in.ensures.answer.2 in
-    lines_run o source new_source text read sink c.args.plays.now
-    games cursor new_sink plays c.write_in.new.plays result spelled (c.in_ok-cursor.ensures.start text spelled)
-    (for_options o.form games cursor.at.index o.limit c.unwrap_or-limit.result sink new_sink plays result limit wrote)
+    let limit : c.unwrap_or-limit.result ≡ unwrap_or o.limit (node_count games) = c.unwrap_or-limit.ensures ∙ ap (unwrap_or o.limit) c.nodes.ensures.count in
+    let wrote : WritesLines o.form (take c.unwrap_or-limit.result (drop cursor.at.index (lines games))) sink new_sink plays c.write_in.result = rw c.in_ok-cursor.ensures.same at c.write_in.ensures.answer.2 in
+    lines_run o source new_source c.args.text.now read sink c.args.plays.now games cursor new_sink plays c.write_in.new.plays c.write_in.result c.in-Ok.ensures.spelled
+    (c.in_ok-cursor.ensures.start c.args.text.now c.in-Ok.ensures.spelled) (for_options o.form games cursor.at.index o.limit c.unwrap_or-limit.result sink new_sink plays c.write_in.result limit wrote)
     c.write_in.ensures.answer.1 c.write_in.ensures.delivered c.write_in.ensures.failures
 
 pub returns-in-Err : goal.returns-in-Err

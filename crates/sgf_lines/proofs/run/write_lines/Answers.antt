@@ -1,7 +1,6 @@
 -- One record more was written, or the sink failed within it.
-use Rattle.sgf_lines.proofs.Common.{◌≡◌, true, None, Some, Ok, Err, slice_get, sym, ap, ◌∙◌, arith, common_steps, MemoryFault, CursorState, advanced, line_before, nodes_before, lines, PutsAll, Held, PlaysLine, StandsBy, record_of, WritesLines, page_after, next_by}
+use Rattle.sgf_lines.proofs.Common.{◌≡◌, true, None, Some, Ok, Err, slice_get, sym, ap, ◌∙◌, arith, common_steps, MemoryFault, CursorState, advanced, line_before, nodes_before, lines, PutsAll, Held, PlaysLine, StandsBy, record_of, WritesLines, page_after, next_by, line_next}
 use Rattle.byte_streams.specs.declared.sink.SinkFault.{SinkFault}
-use Rattle.judged_lines.proofs.Keeping.{line_next}
 use Rattle.sgf_lines.proofs.PlayCounts.{one_written, cut_short, none_left, limit_met, few, goes_forth, not_flushed, one_played, played_then_cut, played_in_part}
 use Rattle.sgf_lines.proofs.run.write_lines.Given.{Over}
 use Rattle.sgf_lines.proofs.run.write_lines.Goals as goal
@@ -33,69 +32,47 @@ module _ (g : Over) (c : In-Ok-true g) where
 pub page-preserved : goal.page-preserved
 page-preserved g c =
     let at = (goal.at.page-preserved g c).In-Ok-true in
-    let games = c.args.lines.now.cursor.at.games in
-    let start = c.args.lines.now.cursor.at.index in
-    let form = g.F.LineForm.form in
-    let new = c.next.new.self in
-    let old_sink = g.T.Sink.state c.args.sink.now in
-    let put : PutsAll {E = SinkFault} (g.T.Sink.state c.page.sink) (g.T.Sink.state c.put.new.sink) (record_of form (plays g at).1.line) (Ok c.in-Ok.field-0) =
+    let put : PutsAll {E = SinkFault} (g.T.Sink.state c.page.sink) (g.T.Sink.state c.put.new.sink) (record_of g.F.LineForm.form (plays g at).1.line) (Ok c.in-Ok.field-0) =
     rw c.in-Ok.is at (c.put.ensures (plays g at).1.line (before g at)) in
     record {
-      written = one_written form games start c.args.limit old_sink c.page.written c.page.lines.cursor.at (g.T.Sink.state c.page.sink) c.page.invariant.written new.cursor.at (g.T.Sink.state c.put.new.sink)
-          (plays g at).1.line (omega (arith, c.page-test.true)) (found g at) (moved g at) put.0 put.1;
+      written = one_written _ _ _ _ _ _ _ _ c.page.invariant.written _ (g.T.Sink.state c.put.new.sink) (plays g at).1.line (omega (arith, c.page-test.true)) (found g at) (moved g at) put.0 put.1;
       first = λ none. absurd (omega (arith, none));
       later = λ some. (came g at).0;
       stands = c.in-Ok-true.ensures.stands;
-      plays = one_played form g.F.LineKeeper.counts g.met.F.LineForm.counts_are games c.requires.ready.rise start c.args.limit c.page.written c.page.lines.before c.page.lines.cursor.at old_sink
-          (g.T.Sink.state c.page.sink) c.page.invariant.written c.page.invariant.first c.page.invariant.later (omega (arith, c.page-test.true)) (g.F.LineKeeper.played c.page.lines.keeper) c.page.invariant.plays
-          (g.F.LineKeeper.played new.keeper) (plays g at);
+      plays = one_played _ g.F.LineKeeper.counts g.met.F.LineForm.counts_are _ c.requires.ready.rise _ _ _ _ _ _ _ c.page.invariant.written c.page.invariant.first c.page.invariant.later
+          (omega (arith, c.page-test.true)) _ c.page.invariant.plays _ (plays g at);
     }
 
 pub returns-in-Err-put-clause-answer : goal.returns-in-Err-put-clause-answer
 returns-in-Err-put-clause-answer g c =
     let at = (goal.at.returns-in-Err-put-clause-answer g c).In-Ok-true in
-    let games = c.args.lines.now.cursor.at.games in
-    let start = c.args.lines.now.cursor.at.index in
-    let form = g.F.LineForm.form in
-    let new = c.next.new.self in
-    let old_sink = g.T.Sink.state c.args.sink.now in
-    let put : PutsAll {A = Unit {0}} (g.T.Sink.state c.page.sink) (g.T.Sink.state c.put.new.sink) (record_of form (plays g at).1.line) (Err c.in-Err-put.field-0) =
+    let put : PutsAll {A = Unit {0}} (g.T.Sink.state c.page.sink) (g.T.Sink.state c.put.new.sink) (record_of g.F.LineForm.form (plays g at).1.line) (Err c.in-Err-put.field-0) =
     rw c.in-Err-put.is at (c.put.ensures (plays g at).1.line (before g at)) in (
-      cut_short form games start c.args.limit old_sink c.page.written c.page.lines.cursor.at (g.T.Sink.state c.page.sink) c.page.invariant.written (g.T.Sink.state c.put.new.sink)
-          (plays g at).1.line put.0 (omega (arith, c.page-test.true)) (found g at) put.1 put.2,
-      played_then_cut form g.F.LineKeeper.counts g.met.F.LineForm.counts_are games c.requires.ready.rise start c.args.limit c.page.written c.page.lines.before c.page.lines.cursor.at old_sink
-          (g.T.Sink.state c.page.sink) c.page.invariant.written c.page.invariant.first c.page.invariant.later (omega (arith, c.page-test.true)) (g.F.LineKeeper.played c.page.lines.keeper) c.page.invariant.plays
-          (g.F.LineKeeper.played new.keeper) (plays g at),
+      cut_short _ _ _ _ _ _ _ _ c.page.invariant.written (g.T.Sink.state c.put.new.sink) (plays g at).1.line put.0 (omega (arith, c.page-test.true)) (found g at) put.1 put.2,
+      played_then_cut _ g.F.LineKeeper.counts g.met.F.LineForm.counts_are _ c.requires.ready.rise _ _ _ _ _ _ _ c.page.invariant.written c.page.invariant.first c.page.invariant.later
+          (omega (arith, c.page-test.true)) _ c.page.invariant.plays _ (plays g at),
     )
 
 pub returns-in-Err-clause-answer : goal.returns-in-Err-clause-answer
-returns-in-Err-clause-answer g c =
-    let games = c.args.lines.now.cursor.at.games in
-    let start = c.args.lines.now.cursor.at.index in
-    let form = g.F.LineForm.form in
-    let old_sink = g.T.Sink.state c.args.sink.now in (
-      c.page.invariant.written.within,
-      c.page.invariant.written.takes,
-      played_in_part form g.F.LineKeeper.counts g.met.F.LineForm.counts_are games c.requires.ready.rise start c.args.limit c.page.written c.page.lines.before c.page.lines.cursor.at old_sink
-          (g.T.Sink.state c.page.sink) c.page.invariant.written c.page.invariant.first c.page.invariant.later (omega (arith, c.page-test.true)) (g.F.LineKeeper.played c.page.lines.keeper) c.page.invariant.plays
-          c.in-Err.field-0 (g.F.LineKeeper.played c.next.new.self.keeper) c.in-Err.ensures.plays,
-    )
+returns-in-Err-clause-answer g c = (
+  c.page.invariant.written.within,
+  c.page.invariant.written.takes,
+  played_in_part _ g.F.LineKeeper.counts g.met.F.LineForm.counts_are _ c.requires.ready.rise _ _ _ _ _ _ _ c.page.invariant.written c.page.invariant.first c.page.invariant.later
+      (omega (arith, c.page-test.true)) _ c.page.invariant.plays c.in-Err.field-0 (g.F.LineKeeper.played c.next.new.self.keeper) c.in-Err.ensures.plays,
+)
 
 -- all records of the page were put, and then the sink was flushed
 whole : (g : Over) (c : After-flush g) → WritesLines g.F.LineForm.form (page_after c.args.lines.now.cursor.at c.args.limit) (g.T.Sink.state c.args.sink.now) (g.T.Sink.state c.page.sink)
     (g.F.LineKeeper.played c.page-test.lines.keeper) (Ok c.page.written)
 whole g c =
-    let start = c.args.lines.now.cursor.at in
     let old = c.page.lines in
     elim c.page-test.branch [
-      | else-page-test w ↦ rw w.lines-is (limit_met g.F.LineForm.form start.games start.index c.args.limit (g.T.Sink.state c.args.sink.now) c.page.written old.cursor.at (g.T.Sink.state c.page.sink)
-          c.page.invariant.written (g.F.LineKeeper.played old.keeper) c.page.invariant.plays (omega (arith, w.page-test.false)))
+      | else-page-test w ↦ rw w.lines-is (limit_met _ _ _ _ _ _ _ _ c.page.invariant.written _ c.page.invariant.plays (omega (arith, w.page-test.false)))
       | then-page-test+in-Ok-false w ↦
           let same : g.F.LineKeeper.played w.next.new.self.keeper ≡ g.F.LineKeeper.played old.keeper = rw w.in-Ok-false.field-0-test at w.in-Ok-false.ensures.plays in
           let none : (w.next.new.self ≡ old) × (slice_get (lines old.cursor.at.games) (next_by old.before old.cursor.at).index ≡ None) = rw w.in-Ok-false.field-0-test at w.in-Ok-false.ensures.moved in
-          rw w.lines-is (none_left g.F.LineForm.form start.games start.index c.args.limit (g.T.Sink.state c.args.sink.now) c.page.written old.cursor.at (g.T.Sink.state c.page.sink)
-          c.page.invariant.written (g.F.LineKeeper.played w.next.new.self.keeper) (same ∙ c.page.invariant.plays)
-          (ap (λ (p : CursorState). slice_get (lines old.cursor.at.games) p.index) (sym (goes_forth c.page.written old.before old.cursor.at c.page.invariant.first c.page.invariant.later)) ∙ none.1))
+          let index = ap (λ (p : CursorState). slice_get (lines old.cursor.at.games) p.index) (sym (goes_forth c.page.written old.before old.cursor.at c.page.invariant.first c.page.invariant.later)) in
+          rw w.lines-is (none_left _ _ _ _ _ _ _ _ c.page.invariant.written _ (same ∙ c.page.invariant.plays) (index ∙ none.1))
     ]
 
 pub returns-in-Err-flush-clause-answer : goal.returns-in-Err-flush-clause-answer

@@ -1,7 +1,6 @@
 -- So many records were written, the cursor stands after their lines, and the last of these is held.
-use Rattle.sgf_lines.proofs.Common.{take, ◌≡◌, ◌-◌, ◌<◌, nodes_before, Unheld, Held, StandsBy, plays_of}
+use Rattle.sgf_lines.proofs.Common.{take, ◌≡◌, ◌-◌, ◌<◌, nodes_before, Unheld, Held, StandsBy, plays_of, page_from}
 use Rattle.sgf_lines.proofs.PlayCounts.{IsSoFar}
-use Rattle.judged_lines.proofs.StreakPlays.{page_from}
 use Rattle.sgf_lines.proofs.run.write_lines.Given as goal
 
 abbrev pub invariant-page : goal.invariant-page

@@ -12,7 +12,7 @@ returns c = record {
   says = elim c.match-count.branch [
     | in-Ok w ↦ rw w.status-is (search rules)
     | in-Err w ↦
-        rw (w.status-is, w.at.ensures, w.refused-status.ensures)
+        rw (w.status-is, w.refused-status.ensures)
         (count_refused c.args.text.now _ _ w.in-Err.fault (ap (λ (s : SourceState). s.to_come) c.new-source.ensures) w.in-Err.ensures.counts)
   ];
 }

@@ -1,6 +1,5 @@
 -- One node more is judged, and told if its step is taken, until all are, or the verdict is known.
-use Rattle.std.proofs.Common.{◌≡◌, Bor, Option, Some, None, [], ◌∷◌, OnErr, Result, refl, sym, ap, subst, ◌∙◌, arith, rules, IsSome, option_copied, eqb-true}
-use Rattle.judged_lines.proofs.Common.{nil_from_length, NextNode, IsTakenOff, Node, Grid, State, LegalStep, after, ComesAs, IsStepFrom, IsUndecided, Judging, common_steps}
+use Rattle.judged_lines.proofs.Common.{nil_from_length, NextNode, IsTakenOff, Node, Grid, State, LegalStep, after, ComesAs, IsStepFrom, IsUndecided, Judging, common_steps, ◌≡◌, Bor, Option, Some, None, [], ◌∷◌, OnErr, Result, refl, sym, ap, subst, ◌∙◌, arith, rules, IsSome, option_copied, eqb-true}
 use Rattle.sgf_outline.specs.NodesLeft.{NodesLeft}
 use Rattle.judged_lines.proofs.Gathered.{comes, setup_names}
 use Rattle.judged_lines.proofs.JudgedLines.{TookOne, countable, ends, refuses, said, starts, step_taken, stops, unsaid}

@@ -1,6 +1,5 @@
 -- The cursor stands after the line that ends in the leaf.
-use Rattle.judged_lines.proofs.Common.{◌≡◌, ◌+◌, arith, common_steps}
-use Rattle.tree_lines.proofs.CursorStates.{before}
+use Rattle.judged_lines.proofs.Common.{◌≡◌, ◌+◌, arith, common_steps, before}
 use Rattle.judged_lines.proofs.LineVerdicts.{some_before, judged_at}
 use Rattle.judged_lines.proofs.judging.one_line.judge.Goals as goal
 use Rattle.judged_lines.proofs.judging.one_line.judge.Goals.{In_ok-seek_leaf}

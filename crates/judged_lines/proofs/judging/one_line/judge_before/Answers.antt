@@ -1,7 +1,6 @@
 -- The line is judged from its root.
-use Rattle.judged_lines.proofs.Common.{arith, common_steps}
+use Rattle.judged_lines.proofs.Common.{arith, common_steps, some_end}
 use Rattle.judged_lines.proofs.LineVerdicts.{told_of}
-use Rattle.tree_lines.proofs.SequenceCursors.{some_end}
 use Rattle.judged_lines.proofs.judging.one_line.judge_before.Goals as goal
 
 pub returns : goal.returns

@@ -1,7 +1,6 @@
 -- The next line stands before the cursor that went on, and was shown to the keeper.
-use Rattle.judged_lines.proofs.Common.{◌≡◌, ◌<◌, length, refl, arith, Front, advanced, SequencesState, SharesFront, Before, Unheld, Held, Refused, HasFront, common_steps}
+use Rattle.judged_lines.proofs.Common.{◌≡◌, ◌<◌, length, refl, arith, Front, advanced, SequencesState, SharesFront, Before, Unheld, Held, Refused, HasFront, common_steps, some_ends}
 use Rattle.judged_lines.specs.GoingOn.{no_front}
-use Rattle.tree_lines.proofs.SequenceCursors.{some_ends}
 use Rattle.judged_lines.proofs.GoingOn.{GoesOnBy, IsNext, goes_on, has_plays, plays_refused}
 use Rattle.judged_lines.proofs.Keeping.{has_front}
 use Rattle.judged_lines.proofs.over_lines.OverLines.next.Given.{Over}
@@ -10,9 +9,7 @@ use Rattle.judged_lines.proofs.over_lines.OverLines.next.Goals.{After-len-nodes,
 
 unheld : (before : Before) (old new : SequencesState) (held shared : Front) → (before ≡ Refused → ⊥) → (before ≡ Held → ⊥) → new.at ≡ advanced old.at → held ≡ no_front → SharesFront old new shared
     → GoesOnBy before old new held
-unheld Unheld old new held shared not_refused not_held moved none shares = (moved, none, (shared, shares))
-unheld Held old new held shared not_refused not_held moved none shares = absurd (not_held refl)
-unheld Refused old new held shared not_refused not_held moved none shares = absurd (not_refused refl)
+unheld before old new held shared not_refused not_held moved none shares = grind (arith, common_steps)
 
 went : (g : Over) (c : After-len-nodes g) → GoesOnBy c.args.self.now.before c.args.self.now.cursor c.match-self.self.cursor c.match-self.held
 went g c = elim c.match-self.branch [
@@ -35,9 +32,7 @@ next_is g c =
     goes_on (g.K.LineKeeper.holds old.keeper old.cursor) old.before old.cursor c.match-self.self.cursor c.match-self.held c.requires.stands (went g c)
 
 front : (before : Before) (old new : SequencesState) (held : Front) → GoesOnBy before old new held → 0 < length new.ends → HasFront new.ends held
-front Unheld old new held go some = rw go.1 (record { more = some; count = refl })
-front Held old new held go some = has_front old new held go.1
-front Refused old new held go some = rw go.1 (record { more = some; count = refl })
+front before old new held go some = grind (arith, common_steps, has_front)
 
 pub returns-in_err-follow-clause-stands : goal.returns-in_err-follow-clause-stands
 returns-in_err-follow-clause-stands g c = (next_is g (goal.at.returns-in_err-follow-clause-stands g c).After-len-nodes).some_node

@@ -1,5 +1,4 @@
-use Rattle.sgf_lines.proofs.Common.{arith, take_all, common_steps}
-use Rattle.board_points.proofs.PointLemmas.{length-points}
+use Rattle.sgf_lines.proofs.Common.{arith, take_all, common_steps, length-points}
 use Rattle.sgf_lines.proofs.CutTexts.{stones-by_point}
 use Rattle.sgf_lines.proofs.form.commands.push_stones.Goals as goal
 

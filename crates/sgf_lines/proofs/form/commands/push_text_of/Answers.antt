@@ -1,6 +1,5 @@
 -- A text without a line feed is one row.
-use Rattle.std.proofs.Common.{◌≡◌, ℕ, ◌++◌, List, OnOk, length, take, codes, ap, sym, subst, ◌∙◌, arith, not}
-use Rattle.sgf_lines.proofs.Common.{eqb-false, common_steps}
+use Rattle.sgf_lines.proofs.Common.{eqb-false, common_steps, ◌≡◌, ℕ, ◌++◌, List, OnOk, length, take, codes, ap, sym, subst, ◌∙◌, arith, not}
 use Rattle.sgf_properties.specs.Text.{text_of}
 use Rattle.sgf_lines.proofs.CutTexts.{joins_three, appended_last, one_row}
 use Rattle.sgf_lines.proofs.form.commands.push_text_of.Goals as goal

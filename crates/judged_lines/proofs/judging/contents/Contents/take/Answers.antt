@@ -12,13 +12,13 @@ returns-in-Some-Move c = λ front h.
 pub returns-in_ok-good-in-Some-Stones : goal.returns-in_ok-good-in-Some-Stones
 returns-in_ok-good-in-Some-Stones c = λ front h.
     let is = sym c.in-Some-Stones.ensures ∙ ap Some c.in-Some-Stones.field-0-is in
-    rw c.with_stones-self.ensures (gathered_stones c.args.size front c.args.operations.now.items c.args.self.now h c.args.property.now c.in-Some-Stones.cell c.push_rectangles.new.operations.items
+    rw (c.with_values-self.ensures, c.then_some.ensures) (gathered_stones c.args.size front c.args.operations.now.items c.args.self.now h c.args.property.now c.in-Some-Stones.cell c.push_rectangles.new.operations.items
     c.in_ok-good-in-Some-Stones.good is c.in_ok-good-in-Some-Stones.ensures)
 
 pub returns-in-Some-Player : goal.returns-in-Some-Player
 returns-in-Some-Player c = λ front h.
     let is = sym c.in-Some-Player.ensures ∙ ap Some c.in-Some-Player.field-0-is in
-    rw c.with_player-self.ensures (gathered_players c.args.size front c.args.operations.now.items c.args.self.now h c.args.property.now c.last_player.result is c.last_player.ensures)
+    rw c.with_values-self-in-Some-Player.ensures (gathered_players c.args.size front c.args.operations.now.items c.args.self.now h c.args.property.now c.last_player.result is c.last_player.ensures.last c.last_player.ensures.some)
 
 pub returns-in-Some-Comment : goal.returns-in-Some-Comment
 returns-in-Some-Comment c = λ front h.

@@ -1,6 +1,5 @@
 -- One sequence more is judged, until all are, or the verdict is known.
-use Rattle.judged_lines.proofs.Common.{Ok, ◌≡◌, ◌+◌, ◌++◌, ◌≤◌, List, length, take, drop, refl, sym, ap, ◌∙◌, length-append, arith, rules, length-drop, Node, nodes_before, nodes_in, game_kind, root_properties, common_steps, WentOn}
-use Rattle.tree_lines.proofs.Fronts.{next_part, none_after, rises_through}
+use Rattle.judged_lines.proofs.Common.{Ok, ◌≡◌, ◌+◌, ◌++◌, ◌≤◌, List, length, take, drop, refl, sym, ap, ◌∙◌, length-append, arith, rules, length-drop, Node, nodes_before, nodes_in, game_kind, root_properties, common_steps, WentOn, next_part, none_after, rises_through}
 use Rattle.judged_lines.proofs.JudgedLines.{Going, begun_front, countable, ends, finish, goes_on, decides, starts, stopped, stops}
 use Rattle.judged_lines.proofs.Keeping.{judgement_kept, judging_front, taken_kept}
 use Rattle.judged_lines.proofs.LegalNodes.{told_front}

@@ -3,8 +3,8 @@ use Rattle.sgf_lines.proofs.Common.{◌≡◌, ap, ◌∙◌, arith, rules, comm
 use Rattle.sgf_lines.proofs.Scripts.{says}
 use Rattle.sgf_lines.proofs.form.script.ScriptStepKeeper.say.Goals as goal
 
-pub returns-then-not-leaves_unreaching : goal.returns-then-not-leaves_unreaching
-returns-then-not-leaves_unreaching c =
+pub returns-then-not-has_unreaching : goal.returns-then-not-has_unreaching
+returns-then-not-has_unreaching c =
     let board = c.args.board.now in
     let step = c.args.step in
     let new : ScriptState = record { text = c.close.new.self; said = c.count-self-inside.result } in

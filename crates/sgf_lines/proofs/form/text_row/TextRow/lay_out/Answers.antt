@@ -1,6 +1,5 @@
 -- The row shows the line's place, its game and the number of its nodes.
-use Rattle.std.proofs.lemmas.List.{drop_all}
-use Rattle.sgf_lines.proofs.Common.{Line, Verdict, place_of, row_of, verdict_text, ◌≡◌, ◌∙◌, [], ◌∷◌, ◌++◌, List, ℕ, Some, append_assoc, decimal, codes, length, ap, rules}
+use Rattle.sgf_lines.proofs.Common.{Line, Verdict, place_of, row_of, verdict_text, ◌≡◌, ◌∙◌, [], ◌∷◌, ◌++◌, List, ℕ, Some, append_assoc, decimal, codes, length, ap, rules, drop_all}
 use Rattle.sgf_lines.proofs.form.text_row.TextRow.lay_out.Goals as goal
 
 row_made : (line : Line) (told : Verdict) (place game count : ℕ) (text : List ℕ)

@@ -1,5 +1,4 @@
-use Rattle.sgf_lines.proofs.Common.{rules, arith, common_steps}
-use Rattle.std.proofs.lemmas.Fmt.{length-decimal-le}
+use Rattle.sgf_lines.proofs.Common.{rules, arith, common_steps, length-decimal-le}
 use Rattle.sgf_lines.proofs.form.text_row.TextRow.put_number.Goals as goal
 
 pub write_digits-self-requires : goal.write_digits-self-requires
