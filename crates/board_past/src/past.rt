@@ -24,8 +24,8 @@ pub use print_past::PrintPast;
 use std::alloc::Global;
 
 /// The colourings that a game has been through, at least one. Some of them begin a stretch. The present stretch is the newest of these, and
-/// all colourings after it. The boards given to `holds`, `push` and `restart` must have the size of these colourings. A call that fails with
-/// `MemoryFault` leaves the past unchanged.
+/// all colourings after it. The boards given to `holds`, `push` and `restart` must have the size of these colourings. A call that fails
+/// with `MemoryFault` leaves the past unchanged.
 pub trait Past: Drop {
     /// The colourings, as contracts see them.
     ghost held: { Self → PastColourings };
@@ -65,9 +65,9 @@ pub trait Past: Drop {
         ensures ok { OnOk result (held self.new ≡ with_next (held self.old) board.now true) }
         ensures err { OnErr result (held self.new ≡ held self.old) };
 
-    /// Plays a stone on an empty point of the newest colouring, with its captures or its suicide (Tromp-Taylor). Adds the colouring that this
-    /// makes to the present stretch, unless the stretch has it already (positional superko). Returns whether it was added. This fails with
-    /// `MemoryFault` only if the stretch doesn't have the colouring. This body is the plain way, which `ListPast` goes; `PrintPast` has its own.
+    /// Plays a stone on an empty point of the newest colouring, with its captures or its suicide (Tromp-Taylor). Adds the colouring that
+    /// this makes to the present stretch, unless the stretch has it already (positional superko). Returns whether it was added. This fails
+    /// with `MemoryFault` only if the stretch doesn't have the colouring. This body is the plain way; `PrintPast` has its own.
     fn play(&mut self, colour: Colour, point: Point) -> Result<bool, MemoryFault>
         requires one_side { HaveSide (newest_grid (held self.old)).side (held self.old) }
         requires on_board { IsOn (newest_grid (held self.old)).side point }
@@ -83,8 +83,8 @@ pub trait Past: Drop {
         Ok(true)
     }
 
-    /// Plays a stone as `play` does, if a short look shows that it clears nothing and that the colouring is new, and if no memory is needed.
-    /// Returns whether it was played. False says nothing, and then nothing is changed. A past without this shortcut answers false.
+    /// Plays a stone as `play` does, if a short look shows that it clears nothing and that the colouring is new, and if no memory is
+    /// needed. Returns whether it was played. False says nothing, and then nothing is changed. A past without this shortcut answers false.
     fn play_at_once(&mut self, colour: Colour, point: Point) -> bool
         requires one_side { HaveSide (newest_grid (held self.old)).side (held self.old) }
         requires on_board { IsOn (newest_grid (held self.old)).side point }

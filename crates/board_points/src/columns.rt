@@ -1,5 +1,5 @@
-//! Sets of columns of a row: a word with a bit for each column. Columns are counted from 0 at the left, and the bit of column 0 is the lowest.
-//! A word has 64 bits, so a column must be less than 64.
+//! Sets of columns of a row: a word with a bit for each column. Columns are counted from 0 at the left, and the bit of column 0 is the
+//! lowest. A word has 64 bits, so a column must be less than 64.
 
 ghost use Rattle.std.specs.Prelude.{◌≡◌, ◌≢◌, ◌<◌, ◌≤◌, ◌||◌, ◌&&◌, false, not, nat_le, ℕ, IsTrue};
 ghost use Rattle.board_points.specs.Rows.{has_bit, AreAllColumns};

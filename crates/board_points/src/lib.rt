@@ -1,12 +1,13 @@
 //! The points of a square board: sizes, points and rectangles, how SGF values and GTP vertices name them, sets of points as rows of bits,
 //! and filling these.
 //!
-//! A board has 1 to 52 points a side. (52 is the largest side whose points SGF FF[4] can name.) What stands on the points isn't the subject of
-//! this crate. Where it speaks of stones, these are sets of points: the player's own stones, and the others.
+//! A board has 1 to 52 points a side. (52 is the largest side whose points SGF FF[4] can name.) What stands on the points isn't the subject
+//! of this crate. Where it speaks of stones, these are sets of points: the player's own stones, and the others.
 //!
-//! A set of points is a list of words: a word for each row from the top, with a bit for each column. So one operation on a word is one on all
-//! points of a row. A set is *filled* within a region: it gets each point of the region that a path of adjacent points within the region connects
-//! to it. A *free* point has no stone. A free point beside a stone is a *liberty* of the stone. These forms of sets are this project's choice.
+//! A set of points is a list of words: a word for each row from the top, with a bit for each column. So one operation on a word is one on
+//! all points of a row. A set is *filled* within a region: it gets each point of the region that a path of adjacent points within the
+//! region connects to it. A *free* point has no stone. A free point beside a stone is a *liberty* of the stone. These forms of sets are
+//! this project's choice.
 //!
 //! The code outside `quick` is complete and can be read by itself. `quick` has faster ways to some of the same answers, and may be skipped.
 //!

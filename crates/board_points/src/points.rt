@@ -18,7 +18,8 @@ pub struct Point {
 pub(crate) const FIRST: Point = Point { col: 0, row: 0 };
 
 impl Point {
-    /// The index of the point, from 0, in the list of all points row by row from the top, from left to right. The point must be on the board.
+    /// The index of the point, from 0, in the list of all points row by row from the top, from left to right. The point must be on the
+    /// board.
     pub fn index(self, size: Size) -> usize
         requires { IsOn size self }
         ensures value { result ≡ index_of size self }

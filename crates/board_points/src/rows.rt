@@ -1,5 +1,5 @@
-//! Sets of points of a board: a word for each row from the top, with a bit for each column. A set has as many words as the board has rows, unless
-//! a function says otherwise.
+//! Sets of points of a board: a word for each row from the top, with a bit for each column. A set has as many words as the board has rows,
+//! unless a function says otherwise.
 
 ghost use Rattle.std.specs.Prelude.{◌≡◌, ◌≤◌, ◌<◌, ◌↔◌, ◌||◌, false, not, IsTrue, length, replicate, take};
 ghost use Rattle.board_points.specs.Point.{Point, IsOn};
@@ -86,7 +86,7 @@ pub fn add_points(rows: &[u64], all: &mut [u64])
     }
 }
 
-/// How many points of `rows` aren't in `others`. Both must have as many words as the board has rows, and `rows` only points on it.
+/// How many points of `rows` aren't in `others`. Both must have a word for each row of the board, and all points of `rows` must be on it.
 pub fn count_apart(rows: &[u64], others: &[u64]) -> u32
     requires few { length rows.now ≤ MAX_ROWS }
     requires same { length others.now ≡ length rows.now }

@@ -22,7 +22,7 @@ pub(crate) mod naming {
     use crate::size::Size;
     use crate::vertices::{MAX_VERTEX_SIDE, Vertex};
 
-    /// The vertex of a point (GTP, version 2). The point must be on the board, and the side at most `MAX_VERTEX_SIDE`.
+    /// The vertex of a point (GTP, version 2; see `Vertex`). The point must be on the board, and the side at most `MAX_VERTEX_SIDE`.
     pub fn vertex(point: Point, size: Size) -> Vertex
         requires on_board { IsOn size point }
         requires letters { size ≤ MAX_VERTEX_SIDE }

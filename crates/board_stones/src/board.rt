@@ -248,9 +248,9 @@ impl Board {
         self.clear(colour);
     }
 
-    /// The area scores of Black and of White, in points (Tromp-Taylor): a player's points, and the empty points that reach her colour and not
-    /// the other's. An empty point that reaches both or neither counts for nobody. After the first test, which is a shortcut for small boards
-    /// (`count_halves` counts there), this is the plain way.
+    /// The area scores of Black and of White, in points (Tromp-Taylor): a player's points, and the empty points that reach her colour and
+    /// not the other's. An empty point that reaches both or neither counts for nobody. After the first test, which is a shortcut for small
+    /// boards (`count_halves` counts there), this is the plain way.
     pub fn score(&self) -> (u32, u32)
         ensures black { result.0 ≡ score_of self.now Black }
         ensures white { result.1 ≡ score_of self.now White }

@@ -19,11 +19,11 @@
 //! | `source` | what gives bytes; sources over a slice and over a reader |
 //! | `sink` | what takes bytes; sinks over a writer, one of which holds bytes back, and over an array; putting bytes until all are taken |
 //!
-//! `Source::give_rest` is the one shortcut: a source whose bytes lie in memory gives them all without a copy. None from it says nothing, and
-//! `Source::get` is the plain way.
+//! `Source::give_rest` is the one shortcut: a source whose bytes lie in memory gives them all without a copy. None from it says nothing,
+//! and `Source::get` is the plain way.
 //!
-//! Only `BufferedSink::new` takes memory. (A reader or writer may take memory of its own, as a vector does.) The crates `sgf_lines_tests` and
-//! `sgfsplit_job_tests` make sources and sinks fail at each call.
+//! Only `BufferedSink::new` takes memory. (A reader or writer may take memory of its own, as a vector does.) The crates `sgf_lines_tests`
+//! and `sgfsplit_job_tests` make sources and sinks fail at each call.
 #![tactic(auto)]
 
 mod sink;

@@ -45,9 +45,9 @@ pub trait Sink {
     ghost delivers_front: { (sink : Self) → DeliversFront (state sink) };
 }
 
-/// A sink over any writer, which may be a `&mut Vec<u8>`. If the writer reports its bytes, the sink reports those that it has taken. It holds
-/// nothing back: what it takes is passed on to the writer. Its flush flushes the writer. An interrupted write counts as failed, and so does
-/// a write of 0 bytes. After a failure the writer isn't called again.
+/// A sink over any writer, which may be a `&mut Vec<u8>`. If the writer reports its bytes, the sink reports those that it has taken. It
+/// holds nothing back: what it takes is passed on to the writer. Its flush flushes the writer. An interrupted write counts as failed, and
+/// so does a write of 0 bytes. After a failure the writer isn't called again.
 #[derive(Debug, Drop)]
 pub struct WriteSink<W: Write + Drop> {
     writer: W,

@@ -22,8 +22,8 @@ pub trait Source {
     /// every source is proved of those that count.
     ghost end_answers: { Self → ℕ } = { λ _. 0 };
 
-    /// Writes the next bytes to the front of `buffer`, which must not be empty. Returns the number of these bytes. It is 0 at the end of the
-    /// source, and only there. If the source fails, it gives nothing, and its count of failures rises by one.
+    /// Writes the next bytes to the front of `buffer`, which must not be empty. Returns the number of these bytes. It is 0 at the end of
+    /// the source, and only there. If the source fails, it gives nothing, and its count of failures rises by one.
     fn get(&mut self, buffer: &mut [u8]) -> Result<usize, SourceFault>
         requires room { 0 < length buffer.old }
         requires countable { (state self.old).failures < u64.MAX }

@@ -176,7 +176,7 @@ impl<P: Past> Referee<P> {
         Ok(self.earlier.push(Earlier { mover, call })?)
     }
 
-    /// Takes back the newest accepted call: the whole state before it returns. There must be such a call, so `depth` must be at least 1.
+    /// Takes back the newest accepted call: the whole state before it is there again. There must be one, so `depth` must be at least 1.
     pub fn undo(&mut self)
         requires { 0 < length self.old.earlier }
         ensures value { self.old.earlier ≡ self.new.present ∷ self.new.earlier }
@@ -200,8 +200,8 @@ impl<P: Past> Referee<P> {
         !self.earlier.last().unwrap().call.grew()
     }
 
-    /// Whether each accepted call after the first `depth` calls left the board as it was. False says nothing. If there are no such calls, this
-    /// is true. It looks at the newest calls first, and no further than at a stone or a setup of stones.
+    /// Whether each accepted call after the first `depth` calls left the board as it was. False says nothing. If there are no such calls,
+    /// this is true. It looks at the newest calls first, and no further than at a stone or a setup of stones.
     pub fn left_board_since(&self, depth: usize) -> bool
         ensures { IsTrue result → HadSameBoardSince self.now depth }
     {

@@ -1,4 +1,4 @@
-//! The trie: descents, and one item more or less.
+//! The trie: nodes, descents, and one item more or less.
 
 ghost use Rattle.std.specs.Prelude.{◌≡◌, ℕ, ◌+◌, ◌-◌, ◌*◌, ◌<◌, ◌≤◌, ◌^◌, min, ◌↔◌, Bool, length, IsTrue, IfOk, MatchOption, OnOk, OnErr};
 ghost use Rattle.std.specs.Vec.{vec_capacity};
@@ -74,8 +74,8 @@ impl Trie {
         self.nodes.capacity()
     }
 
-    /// Makes room for more items: for twice as many and 256 more, but for 2^32 - 1 at most. `AllocError` comes if memory for this was refused,
-    /// and if there is room for the most already. Then nothing is changed.
+    /// Makes room for more items: for twice as many and 256 more, but for 2^32 - 1 at most. `AllocError` comes if memory for this was
+    /// refused, and if there is room for the most already. Then nothing is changed.
     pub fn make_room(&mut self) -> Result<(), AllocError>
         requires { capacity_of self.old < 2 ^ 32 }
         ensures items { nodes_of self.new ≡ nodes_of self.old }
@@ -214,7 +214,7 @@ impl Trie {
         self.insert(slot, position, key.bit(position));
     }
 
-    /// Adds an item that comes in at a slot, where it parts from the others at a position, and has that bit. There must be room for it.
+    /// Adds an item at a slot. It parts there from the others at a position, where it has that bit. There must be room for it.
     pub fn insert(&mut self, slot: Slot, position: u32, bit: bool)
         requires slot { IsIn self.old slot }
         requires room { HasRoom self.old }

@@ -6,7 +6,8 @@
 //! text, one after another, and so are the properties of a node and their raw values. Going over them takes no memory.
 //!
 //! The crate `sgf_tree` reads a text, and tells a [`Visitor`] what comes. It makes an outline of [`Sequences`], which is such a visitor,
-//! and numbers the nodes. It passes on from here what its callers need. The crate `sgf_properties` goes over properties, and decodes values.
+//! and numbers the nodes. It passes on from here what its callers need. The crate `sgf_properties` goes over properties, and decodes
+//! values.
 //!
 //! | Module | What it has |
 //! |---|---|

@@ -91,8 +91,8 @@ impl<'c, 'a> NodeRef<'c, 'a> {
         None
     }
 
-    /// Appends the node as the sgf form writes it: a `;`, and for each property its name in capitals and its raw values between brackets, as
-    /// they are in the text. Nothing stands between these. `MemoryFault` comes only if memory was refused; then `out` is unchanged.
+    /// Appends the node as the sgf form writes it: a `;`, and for each property its name in capitals and its raw values between brackets,
+    /// as they are in the text. Nothing stands between these. `MemoryFault` comes only if memory was refused; then `out` is unchanged.
     pub fn push_to(&self, out: &mut Vec<u8>) -> Result<(), MemoryFault>
         ensures appended { OnOk result (out.new.items ≡ out.old.items ++ node_text self.now) }
         ensures unchanged { OnErr result (out.new.items ≡ out.old.items) }

@@ -102,7 +102,8 @@ impl<'a> Outline<'a> {
         }
     }
 
-    /// The number of the sequence that sequence `i` goes on from, which ends with the parent of its first node. None if that node is a root.
+    /// The number of the sequence that sequence `i` goes on from, which ends with the parent of its first node. None if that node is a
+    /// root.
     pub fn sequence_outer(&self, i: usize) -> Option<usize>
         requires { i < length (sequence_starts self.now) }
         ensures { MatchOption result (parent_at self.now (sequence_start self.now i) ≡ Some None)

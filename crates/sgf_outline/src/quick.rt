@@ -1,6 +1,6 @@
-//! Shortcuts for what nearly all texts have: moves, short properties, and no white space. Each looks at a few bytes, most at sixteen at once.
-//! The rest of the crate is complete without them, so a newcomer may skip this module. Shortcuts over names and values are in `quick` of
-//! `sgf_properties`, those that read whole nodes in `quick` of `sgf_tree`.
+//! Shortcuts for what nearly all texts have: moves, short properties, and no white space. Each looks at a few bytes, most at sixteen at
+//! once. The rest of the crate is complete without them, so a newcomer may skip this module. Shortcuts over names and values are in `quick`
+//! of `sgf_properties`, those that read whole nodes in `quick` of `sgf_tree`.
 //!
 //! A shortcut stands in for a plain function, and ensures no more. None or false says nothing: the caller then calls the plain function.
 //!

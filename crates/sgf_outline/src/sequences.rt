@@ -40,7 +40,8 @@ pub(crate) struct Sequence {
 }
 
 impl Sequence {
-    /// The number of the sequence that it goes on from, which ends with the parent of its first node. None if it begins a game of the collection.
+    /// The number of the sequence that it goes on from, which ends with the parent of its first node. None if it begins a game of the
+    /// collection.
     pub(crate) fn outer(&self) -> Option<u32>
         ensures { result ≡ outer_by self.now }
     {

@@ -18,8 +18,8 @@ use std::marker::Model;
 /// A node that `SequenceNodes::next` took off.
 #[derive(Clone, Copy)]
 pub enum NextNode<'a> {
-    /// It is recognized at a glance. Its first property has this letter as its name, and this raw value and no other one. Each property after
-    /// it has a name of two letters that isn't among the caller's names. None of its properties are left.
+    /// It is recognized at a glance. Its first property has this letter as its name, and this raw value and no other one. Each property
+    /// after it has a name of two letters that isn't among the caller's names. None of its properties are left.
     Led {
         /// The offset in bytes, from 0, of its `;`. So are the places below.
         place: usize,
@@ -39,8 +39,8 @@ pub enum NextNode<'a> {
     },
 }
 
-/// What is left of a sequence: the properties of the node that `next` took off last, as far as `next_property` hasn't taken them off yet, and
-/// the nodes after it, in file order. Its calls take no memory.
+/// What is left of a sequence: the properties of the node that `next` took off last, as far as `next_property` hasn't taken them off yet,
+/// and the nodes after it, in file order. Its calls take no memory.
 #[derive(Drop)]
 pub struct SequenceNodes<'c, 'a> {
     pub(crate) text: &'a [u8],
@@ -76,7 +76,8 @@ impl<'c, 'a> SequenceNodes<'c, 'a> {
         self.number == self.end
     }
 
-    /// Takes off the next node, and drops the properties that are left of the node before it. None if no node is left; then nothing changes.
+    /// Takes off the next node, and drops the properties that are left of the node before it. None if no node is left; then nothing
+    /// changes.
     ///
     /// The node comes as `Led` only if the name of its first property is one capital, whose only value is two bytes without an escape,
     /// and if each property after it has a name of two capitals that isn't among `names`, and one value of at most 12 bytes, none of which

@@ -36,8 +36,8 @@ impl<'c, 'a> Model for Properties<'c, 'a> {
 }
 
 impl<'c, 'a> Properties<'c, 'a> {
-    /// The properties of a node, which begin at the offset `at` in a text, in bytes from 0, perhaps after white space. Whole properties must
-    /// stand there, up to the end of a node. `long` has the kept lengths of the text's long values.
+    /// The properties of a node, which begin at the offset `at` in a text, in bytes from 0, perhaps after white space. Whole properties
+    /// must stand there, up to the end of a node. `long` has the kept lengths of the text's long values.
     #[inline(always)]
     pub fn new(text: &'a [u8], at: usize, long: &'c Vec<LongValue>) -> Properties<'c, 'a>
         requires within { at ≤ length text.now }

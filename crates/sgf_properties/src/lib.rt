@@ -38,12 +38,12 @@
 //! | decoded text; numbers | `decode_front`, which `push_text` calls (`text`); `number` (`numbers`) |
 //! | a property in sgf form | `push_property` (`written`) |
 //!
-//! The plain code is complete without the shortcuts in `quick`, which may be skipped: a first reader may take each call of one to find nothing,
-//! as if it returned None, false, 0, or the offset that it got. A shortcut ensures no more than the plain function that it stands in for.
-//! Outside `quick` these are there only for speed: the kept lengths of long values (`long`), which a first reader may take to be empty; the
-//! first test in `skip_white_space`, and the test in `values_end`; that the first value of a property is held apart until it is taken off
-//! (`Values.first`), since its end is known; `PropRef::initial`, which tells most names apart by one byte; and `literal_length`, by which
-//! `push_text` appends many bytes at once.
+//! The plain code is complete without the shortcuts in `quick`, which may be skipped: a first reader may take each call of one to find
+//! nothing, as if it returned None, false, 0, or the offset that it got. A shortcut ensures no more than the plain function that it stands
+//! in for. Outside `quick` these are there only for speed: the kept lengths of long values (`long`), which a first reader may take to be
+//! empty; the first test in `skip_white_space`, and the test in `values_end`; that the first value of a property is held apart until it is
+//! taken off (`Values.first`), since its end is known; `PropRef::initial`, which tells most names apart by one byte; and `literal_length`,
+//! by which `push_text` appends many bytes at once.
 //!
 //! Worked examples are in the crate `sgf_tree_tests`.
 #![tactic(auto)]

@@ -82,8 +82,8 @@ impl<'a> PropRef<'a> {
         self.iter().count()
     }
 
-    /// Raw value `i`, from 0 in file order: the bytes between its `[` and its `]`. `i` must be less than `values()`. The bytes are a part of
-    /// the text that was read, and live as long as it does. This goes over the values before it; to get all of them, use `iter`.
+    /// Raw value `i`, from 0 in file order: the bytes between its `[` and its `]`. `i` must be less than `values()`. The bytes are a part
+    /// of the text that was read, and live as long as it does. This goes over the values before it; to get all of them, use `iter`.
     pub fn value(&self, i: usize) -> &'a [u8]
         requires { i < length (values self.now) }
         ensures { slice_get (values self.now) i ≡ Some result.now }

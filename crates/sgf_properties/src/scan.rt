@@ -5,8 +5,8 @@ ghost use Rattle.sgf_properties.specs.Spelling.{is_white_space, is_upper};
 ghost use Rattle.sgf_properties.specs.Front.{is_letter};
 ghost use Rattle.sgf_properties.specs.Offsets.{IsSpan, IsPropertyEnd};
 
-/// The offset after the white space that begins at `at`; `at` if none is there, which is usual. White space is the bytes space, tab, line feed,
-/// carriage return, vertical tab and form feed (this project's choice).
+/// The offset after the white space that begins at `at`; `at` if none is there, which is usual. White space is the bytes space, tab, line
+/// feed, carriage return, vertical tab and form feed (this project's choice).
 #[inline(always)]
 pub fn skip_white_space(text: &[u8], at: usize) -> usize
     requires { at ≤ length text.now }
@@ -58,8 +58,8 @@ pub fn begins_value(text: &[u8], at: usize) -> bool
     stands_at(text, skip_white_space(text, at), b'[')
 }
 
-/// The offset after the letters, capitals and small ones, that begin at `at`; `at` if none is there. They are found byte by byte. This is the
-/// plain way. That names may have small letters, which don't count, is this project's choice.
+/// The offset after the letters, capitals and small ones, that begin at `at`; `at` if none is there. They are found byte by byte. This is
+/// the plain way. That names may have small letters, which don't count, is this project's choice.
 pub fn letters_end(text: &[u8], at: usize) -> usize
     requires { at ≤ length text.now }
     ensures { IsSpan is_letter text.now at result }

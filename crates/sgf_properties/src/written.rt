@@ -8,8 +8,8 @@ ghost use Rattle.sgf_properties.specs.Written.{property_text, GoesOn};
 use crate::fault::MemoryFault;
 use crate::property::PropRef;
 
-/// Appends a property as the sgf form writes it: its name in capitals, and its raw values between brackets, as they are in the text. Nothing
-/// stands between these parts (this project's choice). `MemoryFault` comes only if memory was refused; then `out` is unchanged.
+/// Appends a property as the sgf form writes it: its name in capitals, and its raw values between brackets, as they are in the text.
+/// Nothing stands between these parts (this project's choice). `MemoryFault` comes only if memory was refused; then `out` is unchanged.
 pub fn push_property(property: &PropRef<'_>, out: &mut Vec<u8>) -> Result<(), MemoryFault>
     ensures appended { OnOk result (out.new.items ≡ out.old.items ++ property_text property.now) }
     ensures unchanged { OnErr result (out.new.items ≡ out.old.items) }

@@ -49,11 +49,11 @@
 //!
 //! The same table in `sgf_properties` has the rules of names, raw values, decoded text, numbers, and the bytes of white space.
 //!
-//! The plain code is complete without the shortcuts in `quick`, which may be skipped: a first reader may take each call of one to find nothing,
-//! as if it returned None, false, or the offset that it got. A shortcut ensures no more than the plain function that it stands in for. From
-//! `sgf_properties` come the shortcuts `short_name_end`, `short_value_end` and `past_points`, from `sgf_outline` come `moves_in_place` and
-//! `near_property_close`.
-//! Outside `quick` the lengths of long values (`long`) are there only for speed. A first reader may take `long` to be empty.
+//! The plain code is complete without the shortcuts in `quick`, which may be skipped: a first reader may take each call of one to find
+//! nothing, as if it returned None, false, or the offset that it got. A shortcut ensures no more than the plain function that it stands in
+//! for. From `sgf_properties` come the shortcuts `short_name_end`, `short_value_end` and `past_points`, from `sgf_outline` come
+//! `moves_in_place` and `near_property_close`. Outside `quick` the lengths of long values (`long`) are there only for speed. A first reader
+//! may take `long` to be empty.
 //!
 //! Worked examples are in the crate `sgf_tree_tests`, and those that the program shows are in `tests/`.
 #![tactic(auto)]

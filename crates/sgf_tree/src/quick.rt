@@ -1,6 +1,6 @@
-//! Shortcuts for what nearly all texts have: moves, short properties, and no white space. Each looks at a few bytes, most at sixteen at once.
-//! The rest of the crate is complete without them, so a newcomer may skip this module. Shortcuts over names and values are in `quick` of
-//! `sgf_properties`, those over moves and the properties after them in `quick` of `sgf_outline`.
+//! Shortcuts for what nearly all texts have: moves, short properties, and no white space. Each looks at a few bytes, most at sixteen at
+//! once. The rest of the crate is complete without them, so a newcomer may skip this module. Shortcuts over names and values are in `quick`
+//! of `sgf_properties`, those over moves and the properties after them in `quick` of `sgf_outline`.
 //!
 //! A shortcut stands in for a plain function, and ensures no more. None or false says nothing: the caller then calls the plain function.
 //!

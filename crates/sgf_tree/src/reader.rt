@@ -4,9 +4,9 @@
 //! node too, and `read_extent` only counts. The length of each long value is kept in a vector.
 //!
 //! The reader goes from each byte to the next, and never back. It stops at the first byte that can't come next. The bytes before this byte
-//! are the beginning of a valid text, so its offset is the place of the first fault. If the text ends where no valid text can end, the place
-//! is the text's length. So the place is known when the reader stops, without a further search. Some parts of the reader skip ahead, such as
-//! the search for the end of a value. If such a part finds nothing, the place is the text's length.
+//! are the beginning of a valid text, so its offset is the place of the first fault. If the text ends where no valid text can end, the
+//! place is the text's length. So the place is known when the reader stops, without a further search. Some parts of the reader skip ahead,
+//! such as the search for the end of a value. If such a part finds nothing, the place is the text's length.
 //!
 //! The plain way goes from `read_whole` to `read_games`, `read_sequence`, `read_node` (`games`), `read_properties`, `read_property`,
 //! `read_name` (`properties`) and `read_value` (`value`).

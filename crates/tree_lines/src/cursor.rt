@@ -67,8 +67,8 @@ impl<'c, 'a> Cursor<'c, 'a> {
     }
 
     /// Moves the cursor to just after the line with this place, wherever it was before. A line's place is the offset in bytes, from 0, of
-    /// the `;` of its last node. `NoSuchLine` comes exactly if no line has that place, unless memory was refused. After a refusal the cursor
-    /// is unchanged.
+    /// the `;` of its last node. `NoSuchLine` comes exactly if no line has that place, unless memory was refused. After a refusal the
+    /// cursor is unchanged.
     pub fn seek_after(&mut self, place: u64) -> Result<(), SeekFault>
         ensures sought { OnOk result (IsAfterPlace place self.old self.new) }
         ensures why { IfErr result (IsSeekFault self.old.games place) }
@@ -93,7 +93,8 @@ impl<'c, 'a> Cursor<'c, 'a> {
     }
 }
 
-/// The line before a cursor. There must be such a line, and `path` must list the numbers of its nodes, from 0 in file order, the root's first.
+/// The line before a cursor. There must be such a line, and `path` must list the numbers of its nodes, from 0 in file order, the root's
+/// first.
 pub fn line_with<'l>(sequences: &SequenceCursor<'_, '_>, path: &'l [usize]) -> LineRef<'l>
     requires some { 0 < sequences.now.at.index }
     requires path { path.now ≡ path_before sequences.now.at }
@@ -106,8 +107,8 @@ pub fn line_with<'l>(sequences: &SequenceCursor<'_, '_>, path: &'l [usize]) -> L
 }
 
 /// Makes `path` the numbers of the nodes of the line before a cursor, from 0 in file order, the root's first; none before the first line.
-/// It must begin with the nodes of `front`, the first sequences of that line: it is cut back to these, and the nodes after them are appended.
-/// It must have room for all nodes of the line (`SequenceCursor::len`). So this takes no memory.
+/// It must begin with the nodes of `front`, the first sequences of that line: it is cut back to these, and the nodes after them are
+/// appended. It must have room for all nodes of the line (`SequenceCursor::len`). So this takes no memory.
 pub fn write_path(sequences: &SequenceCursor<'_, '_>, front: Front, path: &mut Vec<usize>)
     requires within { front.sequences ≤ length sequences.now.ends }
     requires count { front.nodes ≡ nodes_in sequences.now.ends front.sequences }

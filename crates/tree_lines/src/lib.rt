@@ -1,8 +1,8 @@
 //! The lines of play of a Smart Game Format (SGF FF[4]) collection, in file order, and cursors over them.
 //!
 //! A line goes from the root of a game to a leaf. The lines of an earlier game come first, and in a game those of an earlier variation. The
-//! *path* of a line is the numbers of its nodes, from 0 in file order. Its *place* is the offset in bytes, from 0, of the `;` of its last node.
-//! No two lines of a text have the same place ([`laws::rise`]).
+//! *path* of a line is the numbers of its nodes, from 0 in file order. Its *place* is the offset in bytes, from 0, of the `;` of its last
+//! node. No two lines of a text have the same place ([`laws::rise`]).
 //!
 //! A line is whole sequences of the text, one after the other, and two lines part only between sequences. So a [`SequenceCursor`] keeps the
 //! sequences of the line before it, in 8 bytes each. When it goes on, it keeps the *front*, the first sequences that the next line shares,

@@ -1,5 +1,5 @@
-//! Going over the lines of play of a collection, sequence by sequence. A sequence has the nodes between a `(` and the next parenthesis. So a
-//! cursor goes over a game without variations in one step, however many nodes it has.
+//! Going over the lines of play of a collection, sequence by sequence. A sequence has the nodes between a `(` and the next parenthesis. So
+//! a cursor goes over a game without variations in one step, however many nodes it has.
 
 ghost use Rattle.std.specs.Prelude.{◌≡◌, ◌+◌, ◌-◌, ◌<◌, ◌≤◌, ◌++◌, None, Some, [], length, slice_get, option_map, IfOk, IfErr, IfSome, IfNone, OnOk, OnErr, MatchOption};
 ghost use Rattle.std.specs.List.{flat_map, range_with_len};
@@ -210,7 +210,8 @@ impl<'c, 'a> SequenceCursor<'c, 'a> {
     }
 
     /// The number of the first node of a sequence of the line before the cursor, and the number after that of its last node. Nodes are
-    /// numbered from 0 in file order. Sequences of the line are counted from 0, the root's first, and `index` must be less than their number.
+    /// numbered from 0 in file order. Sequences of the line are counted from 0, the root's first, and `index` must be less than their
+    /// number.
     pub fn numbers(&self, index: usize) -> (usize, usize)
         requires { index < length self.now.ends }
         ensures nodes { Some (nodes_at self.now.at.games (range_with_len result.0 (result.1 - result.0))) ≡ slice_get (sequences_of self.now.ends (nodes_before self.now.at)) index }

@@ -132,7 +132,7 @@ pub record IsFreshStone (past : PastColourings) (point : Point) : Type 0 where
   pub there : cell_at (newest_grid past) point ≢ Empty
   pub new : (grid : Grid) → Contains (if past.newest.begins then [] else stretch_of past.older) grid → cell_at grid point ≡ Empty
 
--- `known` is right of the newest colouring, and of a stone that is played on it
+-- `known` holds of the newest colouring, and of a stone that is played on it
 pub record IsKnown (past : PastColourings) (colour : Colour) (point : Point) (known : Known) : Type 0 where
   pub settled : IsTrue (is_settled known) → has_unreaching (newest_grid past) ≡ false
   pub fresh : IsTrue (is_fresh known) → IsFreshStone (with_next past (play (newest_grid past) colour point) false) point

@@ -1,11 +1,11 @@
 //! The past of a run, and how it finds a stone that repeats a colouring (positional superko).
 //!
 //! A colouring can come back only by a stone on a point that was emptied before, or by suicide. So most stones are played without a look-up
-//! (`may_repeat`). For any other one, the newest steps are gone over (`decide_by_newest`). Nearly always they tell. If they only put stones, no
-//! earlier colouring has the stone that is played. No colouring before a fresh stone has that stone. If the steps don't tell, the newest
-//! colourings are compared one by one, as long as no look-up was needed before in the game. Then a table of prints and a trie of keys decide,
-//! for all colourings at once (`play_by_print`). On a board with a stone that isn't alive, which only a setup makes, one colouring is compared
-//! (`play_on_copy`). `ListPast` is the plainest past.
+//! (`may_repeat`). For any other one, the newest steps are gone over (`decide_by_newest`). Nearly always they tell. If they only put
+//! stones, no earlier colouring has the stone that is played. No colouring before a fresh stone has that stone. If the steps don't tell,
+//! the newest colourings are compared one by one, as long as no look-up was needed before in the game. Then a table of prints and a trie of
+//! keys decide, for all colourings at once (`play_by_print`). On a board with a stone that isn't alive, which only a setup makes, one
+//! colouring is compared (`play_on_copy`). `ListPast` is the plainest past.
 //!
 //! | Module | What it has |
 //! |---|---|
@@ -52,14 +52,14 @@ use board_stones::{Board, Colour, SetupOp};
 use std::alloc::Global;
 use std::marker::Model;
 
-/// Whether a stone was played. It isn't if it would repeat a colouring.
+/// Whether a stone was played: not if it would repeat a colouring. `MemoryFault` comes only if memory was refused; nothing is changed then.
 type Played = Result<bool, MemoryFault>;
 
 /// A past that keeps the newest colouring whole. Of each older one it keeps what leads back to it. A colouring is looked up only in the
 /// present stretch, and only if a stone may repeat one. At first it is looked for among the newest colourings. Once these haven't told in a
 /// game, or stones were set up after other steps, it is looked up by its print, a 64-bit number made from what stands on all its points. If
-/// two prints are equal, all points are compared, or hashes, if very many colourings have that print. A colouring that only adds one stone to
-/// the one before it takes 12 bytes. Room for its print and for a node of the trie, 24 bytes, is kept beside.
+/// two prints are equal, all points are compared, or hashes, if very many colourings have that print. A colouring that only adds one stone
+/// to the one before it takes 12 bytes. Room for its print and for a node of the trie, 24 bytes, is kept beside.
 #[derive(Drop)]
 pub struct PrintPast {
     colourings: Colourings,
@@ -124,8 +124,9 @@ impl Past for PrintPast {
         self.add(board, true)
     }
 
-    /// Finds captures and suicide near the stone (`find_cleared`), unless a glance shows that there are none. It glances only if `play_at_once`
-    /// would have stopped before its glance. The plain ways are `Past::play`, and `Board::place` on a board that isn't settled (`play_on_copy`).
+    /// Finds captures and suicide near the stone (`find_cleared`), unless a glance shows that there are none. It glances only if
+    /// `play_at_once` would have stopped before its glance. The plain ways are `Past::play` and `Board::place`; `play_on_copy` takes the
+    /// second.
     fn play(&mut self, colour: Colour, point: Point) -> Result<bool, MemoryFault> {
         let newest = self.colourings.newest();
         if !newest.is_settled() {
@@ -294,7 +295,7 @@ impl PrintPast {
         self.colourings.look_back(&made)
     }
 
-    /// Plays a stone that brings no colouring back; `cleared` is what it clears. `known` is what is to be kept of the newest colouring.
+    /// Plays a stone that brings no colouring back; `cleared` is what it clears. `known` is what is known of the colouring before it.
     #[inline(always)]
     fn play_new(&mut self, colour: Colour, point: Point, cleared: &[u64], known: Known) -> Played
         requires stone { IsMove (newest_grid self.old) colour point cleared.now }
@@ -389,9 +390,9 @@ fn at_once_below(past: &Colourings, table: &Table) -> usize
     room.min(steps - steps % FULL + (FULL - 1))
 }
 
-/// Adds the colouring that a stone makes; `cleared` and `known` are as in `play_new`. `print` is the colouring's print, or None if the table
-/// sleeps. Puts the colouring into the trie if its gap there is known. After a refusal nothing is changed.
-// No method: between its steps the invariant of the past doesn't hold.
+/// Adds the colouring that a stone makes; `cleared` and `known` are as in `play_new`. `print` is the colouring's print, or None if the
+/// table sleeps. Puts the colouring into the trie if its gap there is known. After a refusal nothing is changed.
+// No method: between its steps the invariant of `PrintPast` doesn't hold.
 #[inline(always)]
 fn add_stone(
     past: &mut Colourings,
@@ -424,7 +425,7 @@ fn add_stone(
 }
 
 /// Where the colouring that a stone makes comes into the trie, which gets all colourings first; None if the present stretch has it, so that
-/// positional superko forbids the stone. `print` is the colouring's print. All points are looked at only if another one has it, too.
+/// positional superko forbids the stone. `print` is the colouring's print. All points are looked at only if another colouring has it.
 fn gap_of_stone(
     past: &Colourings,
     table: &mut Table,

@@ -30,7 +30,7 @@ abbrev pub AreFree : List ℕ → List ℕ → Point → ℕ → ℕ → Type 0
 AreFree own others point index word =
     (col : ℕ) → col < 64 → has_bit word col ≡ false → (free : Point) × IsInRowAround point.row index col free × IsFree own others free × (free ≢ point)
 
--- what is known of the row with this index around the row `middle`, if each column with a stone is in one of two words
+-- what is known of the row with this index around the row `middle`, if each column with a stone is in `own_word` or in `others_word`
 pub record IsNextRow (own others : List ℕ) (middle index own_word others_word : ℕ) : Type 0 where
   pub has_others : (point : Point) → point.row + 2 ≡ middle + index → IsTrue (is_set others point) → IsTrue (has_bit others_word point.col)
   pub is_free : (col : ℕ) → col < length own → has_bit own_word col ≡ false → has_bit others_word col ≡ false

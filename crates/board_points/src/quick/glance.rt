@@ -12,8 +12,8 @@ use crate::columns::{all_columns, has_column, with_column};
 use crate::liberty::{RowStones, columns_beside, row_at, row_inside};
 use crate::points::Point;
 
-/// Whether a glance at the rows around a point shows two things of a player's stone there. It is alive, by a liberty of its own or of a
-/// stone beside it. And each stone of the opponent beside it keeps a liberty of its own. The point must be on the board of these rows.
+/// Whether a glance at the rows around a point shows that a player's stone there is alive, by a liberty of its own or of a stone beside it,
+/// and that each stone of the opponent beside it keeps a liberty of its own. The point must be on the board of these rows.
 #[inline(always)]
 #[tactic(auto, using(crate::proofs::WordLemmas::columns_off))]
 pub fn leaves_all_alive(own: &[u64], others: &[u64], point: Point) -> bool

@@ -1,5 +1,5 @@
-//! The group of a stone, and whether it has a liberty. Most groups show one in the stone's row, or straight above or below it. Only if none does,
-//! the whole group is filled.
+//! The group of a stone, and whether it has a liberty. Most groups show one in the stone's row, or straight above or below it. Only if none
+//! does, the whole group is filled.
 
 ghost use Rattle.std.specs.Prelude.{◌≡◌, ◌<◌, ◌≤◌, IsTrue, IsFalse, IfNone, IfSome, length};
 ghost use Rattle.board_points.specs.declared.points.Point.{Point};
@@ -124,8 +124,8 @@ fn is_in_one_row(own: &[u64], row: usize, joined: u64) -> bool
     (above | below) & joined == 0
 }
 
-/// Adds to a group stones that a row of it is linked to straight up or down, row by row. Ends at the first of these rows that has a stone with
-/// a liberty, and returns whether there is one.
+/// Adds to a group stones that a row of it is linked to straight up or down, row by row. Ends at the first of these rows that has a stone
+/// with a liberty, and returns whether there is one.
 #[inline(always)]
 fn lives_ahead(own: &[u64], others: &[u64], first: usize, way: Direction, group: &mut [u64]) -> bool
     requires rows { AreOfOneBoard own.now others.now }

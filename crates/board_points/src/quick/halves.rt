@@ -1,5 +1,5 @@
-//! Two sets of points in one list of words, which one filling fills: the low half of a word has a row of the one, the high half has a row of the
-//! other. The board must be small enough that an empty column is left between the halves.
+//! Two sets of points in one list of words, which one filling fills: the low half of a word has a row of the one, the high half has a row
+//! of the other. The board must be small enough that an empty column is left between the halves.
 
 ghost use Rattle.std.specs.Prelude.{◌≡◌, ◌<◌, IsTrue, length};
 ghost use Rattle.board_points.specs.Halves.{low_halves, high_halves, AreOnSmallBoard, ArePaired, AreOthersPaired};
@@ -17,8 +17,8 @@ pub const FEW_ROWS: usize = HALF as usize;
 /// A word's low half is its rest by this divisor, and its high half is the quotient.
 const HALVES: u64 = 1 << HALF;
 
-/// Writes two sets to `areas`, the first (`black`) to the low halves, and to `region` for each the points that aren't in the other. The four
-/// must have as many words as the board has rows, fewer than 32, and all points must be on the board.
+/// Writes two sets to `areas`, the first (`black`) to the low halves, and to `region` for each the points that aren't in the other. The
+/// four must have as many words as the board has rows, fewer than 32, and all points must be on the board.
 #[inline(always)]
 pub fn pair_rows(black: &[u64], white: &[u64], areas: &mut [u64], region: &mut [u64])
     requires stones { AreOnSmallBoard black.now white.now }
@@ -37,9 +37,9 @@ pub fn pair_rows(black: &[u64], white: &[u64], areas: &mut [u64], region: &mut [
     }
 }
 
-/// How many points each of two sets has that aren't in the other: first the set in the low halves (Black's area in a score), then the other.
-/// So an empty point in both areas counts for nobody, as one in neither. There must be as many words as the board has rows, fewer than 32,
-/// and all points must be on the board.
+/// How many points each of two sets has that aren't in the other: first the set in the low halves (Black's area in a score), then the
+/// other. So an empty point in both areas counts for nobody, as one in neither. There must be as many words as the board has rows, fewer
+/// than 32, and all points must be on the board.
 #[inline(always)]
 pub fn count_halves(areas: &[u64]) -> (u32, u32)
     requires few { length areas.now < HALF }

@@ -35,10 +35,10 @@ impl Board {
         leaves_all_alive(own, others, point)
     }
 
-    /// Finds what a stone on an empty point clears, by capture or else by suicide. `cleared` must have no points. If the stone clears something,
-    /// `cleared` becomes that; if not, false is returned, and what is in `cleared` says nothing.
-    /// Before the move every stone on the board must reach empty. So after it only the stone's own group and the groups beside the
-    /// stone can be without a liberty. The stone is put on the board for this search, and removed again.
+    /// Finds what a stone on an empty point clears, by capture or else by suicide. `cleared` must have no points. If the stone clears
+    /// something, `cleared` becomes that; if not, false is returned, and what is in `cleared` says nothing. Before the move every stone on
+    /// the board must reach empty. So after it only the stone's own group and the groups beside the stone can be without a liberty. The
+    /// stone is put on the board for this search, and removed again.
     pub fn find_cleared(&mut self, colour: Colour, point: Point, cleared: &mut [u64]) -> bool
         requires stone { IsEmptyOnSettled self.old point }
         requires none { HasNoPoint self.old.side cleared.old }

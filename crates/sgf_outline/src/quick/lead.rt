@@ -44,7 +44,8 @@ pub(crate) fn is_empty_node(text: &[u8]) -> bool
     text.len() > 1 && text[0] == b';' && b' ' < text[1] && text[1] < b'A'
 }
 
-/// Whether the first property of the node at the front of the text is written like `B[pd]`, and has no other value. Its `;` isn't looked at.
+/// Whether the first property of the node at the front of the text is written like `B[pd]`, and has no other value. Its `;` isn't looked
+/// at.
 pub(crate) fn is_lone_front(text: &[u8]) -> bool
     ensures { IsTrue result → IsLoneFront text.now }
 {

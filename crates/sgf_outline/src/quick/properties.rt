@@ -17,7 +17,8 @@ pub fn near_property_close(text: &[u8], at: usize) -> Option<usize>
         return None;
     }
     // A byte stops a property such as `BL[921.325]` if it is at most so much above the least one. At first any byte but two capitals and a
-    // `[` does, and then a `]` or a `\`. This wraps: 91 comes after `Z`, and 229 bytes further is the byte before `A`. 92 is `\`, before `]`.
+    // `[` does, and then a `]` or a `\`. This wraps: 91 comes after `Z`, and 229 bytes further is the byte before `A`. 92 is `\`, before
+    // `]`.
     let least = u8x16::from_array([
         91, 91, 92, 92, 92, 92, 92, 92, 92, 92, 92, 92, 92, 92, 92, 92,
     ]);

@@ -1,4 +1,5 @@
-//! Nodes that are a move and perhaps short properties, and nodes without properties, in place of `take_node` and `read_properties` of `reader`.
+//! Nodes that are a move and perhaps short properties, and nodes without properties, in place of `take_node` and `read_properties` of
+//! `reader`.
 
 ghost use Rattle.std.specs.Prelude.{◌≡◌, ◌+◌, IfOk, MatchOption};
 ghost use Rattle.sgf_tree.specs.inner.NodesRead.{BeginsNode, AreNodesRead};
@@ -9,8 +10,8 @@ use crate::reader::own_nodes::{NodesRead, take_node};
 use sgf_outline::{TWO_MOVES, Visitor, moves_in_place};
 use sgf_properties::MemoryFault;
 
-/// Reads the node whose `;` stands where `before` ends, if a glance shows all of it, and with it the node after it, if both are written like
-/// `;B[pd]`. If it returns None, nothing is read.
+/// Reads the node whose `;` stands where `before` ends, if a glance shows all of it, and with it the node after it, if both are written
+/// like `;B[pd]`. If it returns None, nothing is read.
 #[inline(always)]
 pub(crate) fn near_nodes<K: Visitor>(
     text: &[u8],

@@ -1,4 +1,5 @@
-//! Properties with a name of one or two letters and a short value, in place of `read_properties` and `read_property` of `reader::properties`.
+//! Properties with a name of one or two letters and a short value, in place of `read_properties` and `read_property` of
+//! `reader::properties`.
 
 ghost use Rattle.std.specs.Prelude.{◌≡◌, ◌<◌, ◌≤◌, ◌+◌, length, slice_index, IsTrue, IfSome};
 ghost use Rattle.sgf_outline.specs.Spelling.{is_upper};

@@ -52,8 +52,8 @@ pub(crate) fn read_properties<K: Visitor>(
     Ok(read)
 }
 
-/// Reads the property whose identifier begins at the end of `before`, value after value: Property = PropIdent PropValue { PropValue }. White
-/// space may follow each value. This is the plain way.
+/// Reads the property whose identifier begins at the end of `before`, value after value: Property = PropIdent PropValue { PropValue }.
+/// White space may follow each value. This is the plain way.
 fn read_property<K: Visitor>(
     text: &[u8],
     before: PartRead,

@@ -81,9 +81,9 @@ impl Colourings {
         self.older.len() + 1
     }
 
-    /// Whether the newest steps show that a stone brings no colouring of the present stretch back; `cleared` is what the stone clears. False
-    /// says nothing. If the newest steps only put stones, no earlier colouring has a stone where the newest has none, so none has the stone
-    /// that is played. No colouring before a fresh stone has that stone. At most `LOOK_BACK` steps are gone over.
+    /// Whether the newest steps show that a stone brings no colouring of the present stretch back; `cleared` is what the stone clears.
+    /// False says nothing. If the newest steps only put stones, no earlier colouring has a stone where the newest has none, so none has the
+    /// stone that is played. No colouring before a fresh stone has that stone. At most `LOOK_BACK` steps are gone over.
     pub(crate) fn newest_steps_show_new(&self, point: Point, cleared: &[u64]) -> bool
         requires stone { (colour : Colour) × IsMove (newest_grid self.now) colour point cleared.now }
         ensures { (colour : Colour) → IsMove (newest_grid self.now) colour point cleared.now → IsTrue result
@@ -110,8 +110,8 @@ impl Colourings {
         false
     }
 
-    /// The number of the first colouring of the present stretch, which the last setup of stones began, or the game. Only the colourings from
-    /// it on count for positional superko.
+    /// The number of the first colouring of the present stretch, which the last setup of stones began, or the game. Only the colourings
+    /// from it on count for positional superko.
     pub(crate) fn stretch_start(&self) -> usize
         ensures below { result < length (all_of self.now) }
         ensures start { result ≡ start_of (all_of self.now) }
@@ -138,7 +138,8 @@ impl Colourings {
         board.same(&self.board_at(number))
     }
 
-    /// Whether the colouring with this number is of the present stretch, one of the newest, and the same as the board's. False says nothing.
+    /// Whether the colouring with this number is of the present stretch, one of the newest, and the same as the board's. False says
+    /// nothing.
     // Apart from its caller: a whole board stands on its stack, and each look-up would set room for it to zeros.
     pub(crate) fn has_near(&self, number: usize, board: &Board) -> bool
         requires { number < length (all_of self.now) }
@@ -178,9 +179,9 @@ impl Colourings {
         board
     }
 
-    /// Compares a board with the newest colourings of the present stretch, the newest first. Returns whether the stretch has it; None if these
-    /// don't tell. If the board has a fresh stone, no colouring before that stone equals it. At most `LOOK_BACK` colourings are gone over, and
-    /// fewer if the board is large or if a step kept many rows (`ROWS_IN_ALL`).
+    /// Compares a board with the newest colourings of the present stretch, the newest first. Returns whether the stretch has it; None if
+    /// these don't tell. If the board has a fresh stone, no colouring before that stone equals it. At most `LOOK_BACK` colourings are gone
+    /// over, and fewer if the board is large or if a step kept many rows (`ROWS_IN_ALL`).
     pub(crate) fn look_back(&self, made: &Board) -> Option<bool>
         requires { made.now.side ≡ (newest_grid self.now).side }
         ensures { IfSome result (λ has. IsTrue has ↔ Contains (present_stretch self.now) made.now) }
@@ -289,7 +290,8 @@ impl Colourings {
         }
     }
 
-    /// Adds the colouring that a stone makes, to the present stretch; `cleared` is what the stone clears. After a refusal nothing is changed.
+    /// Adds the colouring that a stone makes, to the present stretch; `cleared` is what the stone clears, and `known` what is known of the
+    /// colouring before. After a refusal nothing is changed.
     #[inline(always)]
     pub(crate) fn add_stone(
         &mut self,
@@ -325,7 +327,7 @@ impl Colourings {
     }
 
     /// Adds the colouring that a stone makes that clears nothing, and keeps its point alone. The newest colouring must be settled, and the
-    /// next step must not be a full one. This takes no memory.
+    /// next step must not be a full one. `known` is as in `add_stone`. This takes no memory.
     #[inline(always)]
     pub(crate) fn add_lone_stone(&mut self, colour: Colour, point: Point, known: Known)
         requires stone { IsMove (newest_grid self.old) colour point [] }
@@ -360,7 +362,7 @@ impl Colourings {
         self.stretch_start = kept.stretch_start as usize;
     }
 
-    /// Takes the newest colouring back if only the point of a stone is kept of its step. Returns whether it did. This is quicker than `pop`.
+    /// Takes the newest colouring back if only the point of a stone is kept of its step. Returns whether it did. Quicker than `pop`.
     #[inline(always)]
     pub(crate) fn pop_lone_stone(&mut self) -> bool
         requires { 0 < length self.old.older }

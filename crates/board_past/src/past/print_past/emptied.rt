@@ -1,5 +1,5 @@
-//! The points that were emptied since the game began, as far as the present colourings go. A stone that stays can bring a colouring back only
-//! on one of these points. Taking a colouring back takes out the points that its step emptied first.
+//! The points that were emptied since the game began, as far as the present colourings go. A stone that stays can bring a colouring back
+//! only on one of these points. Taking a colouring back takes out the points that its step emptied first.
 
 ghost use Rattle.std.specs.Prelude.{◌≡◌, ◌+◌, ◌≤◌, ◌||◌, List, [], ◌∷◌, length, IsFalse, OnOk};
 ghost use Rattle.std.specs.Vec.{vec_capacity};

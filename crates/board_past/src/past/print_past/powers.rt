@@ -24,8 +24,8 @@ const HIGH: [u64; 64] = powers!([1]
     0x2149_8314_4dbf_7801 0xe4ea_838c_e3be_f001 0xd6e7_b322_e87d_e001
     0x89a3_4a2a_54fb_c001 0x1d17_c1e6_b9f7_8001 0x1901_2a15_b3ef_0001);
 
-/// The power that the digit of a point counts in a print: its exponent is how many points come after that one, row by row from the top, from
-/// left to right.
+/// The power that the digit of a point counts in a print: its exponent is how many points come after that one, row by row from the top,
+/// from left to right.
 pub(crate) fn power_of(side: u8, point: Point) -> u64
     requires on_board { IsOn side point }
     requires side { side ≤ MAX_SIDE }

@@ -1,6 +1,6 @@
-//! The print of a colouring: one number made from what stands on all its points. Usually one comparison of prints is enough to show that two
-//! colourings differ. The codes of the cells (0 for empty, 1 for black, 2 for white) are the digits of a number in base 31: row by row from
-//! the top, from left to right. The print is that number modulo 2^64.
+//! The print of a colouring: one number made from what stands on all its points. Usually one comparison of prints is enough to show that
+//! two colourings differ. The codes of the cells (0 for empty, 1 for black, 2 for white) are the digits of a number in base 31: row by row
+//! from the top, from left to right. The print is that number modulo 2^64.
 //!
 //! A print is linear: a stone adds its code times a power of 31. So it takes few instructions to work out what a stone changes. Whoever
 //! knows that can make colourings with equal prints. A hash tells those apart. This costs only bounded time: the table of prints says why.

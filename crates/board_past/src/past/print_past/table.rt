@@ -1,13 +1,12 @@
 //! The table by which colourings are looked up.
 //!
-//! Once `link` has put all colourings into a trie of keys (see `key`, and the crate `key_trie`), a look-up descends this trie by the bits of
-//! the colouring that is looked up. It ends at one past colouring, and compares with that one alone: first by the print (`gap`). If that
-//! colouring has the print and is one of the newest, the boards are compared, which answers a ko at once (`Colourings::has_near`). If this doesn't
-//! tell, another descent goes on by the start of the stretch and the rows, and the two keys are compared to their ends (`gap_by_key`). So a
-//! look-up costs at most four descents, and two past colourings worked out, whatever was played before. It also tells where the new colouring
-//! comes in.
-//! To put a colouring into the trie that wasn't looked up costs at most two colourings worked out, its own and that at the end of its
-//! descent, and this only if they have the same print and the same stretch. To take one out is one step.
+//! Once `link` has put all colourings into a trie of keys (see `key`, and the crate `key_trie`), a look-up descends this trie by the bits
+//! of the colouring that is looked up. It ends at one past colouring, and compares with that one alone: first by the print (`gap`). If that
+//! colouring has the print and is one of the newest, the boards are compared, which answers a ko at once (`Colourings::has_near`). If this
+//! doesn't tell, another descent goes on by the start of the stretch and the rows, and the two keys are compared to their ends
+//! (`gap_by_key`). So a look-up costs at most four descents, and two past colourings worked out, whatever was played before. It also tells
+//! where the new colouring comes in. To put a colouring into the trie that wasn't looked up costs at most two colourings worked out, its
+//! own and that at the end of its descent, and this only if they have the same print and the same stretch. To take one out is one step.
 //!
 //! A descent passes a node at each position of the key where past colourings part from the one that is looked up. It passes at most 64 in
 //! the print, and 26 in the start of the stretch: that is below 2^26, since no input has more bytes. On the board it passes hardly any,
@@ -17,8 +16,9 @@
 //! many boards. So a descent passes some 50 nodes there at most, after 2^50 boards tried, and goes on into the rows only if two hashes are
 //! equal. No proof rests on that. So no descent gets longer with more colourings, or with more of them that have one print.
 //!
-//! With hashes, a look-up that goes on by the rows works out two hashes more at most: that of its own colouring, and that of the past one, if
-//! it isn't kept (`hashes`). For this hash the past colouring is worked out once more. To put a colouring in costs as much for each of the two.
+//! With hashes, a look-up that goes on by the rows works out two hashes more at most: that of its own colouring, and that of the past one,
+//! if it isn't kept (`hashes`). For this hash the past colouring is worked out once more. To put a colouring in costs as much for each of
+//! the two.
 //!
 //! In most games the newest colourings answer all that is asked (`Colourings::look_back`). So the table sleeps at first: it has no prints,
 //! and a stone that is played at once costs nothing here. `wake` works the prints out, once a game, one for each colouring. A setup
@@ -47,7 +47,8 @@ use std::alloc::Global;
 /// The number of colourings that a new table has room for.
 const FIRST_ROOM: usize = 256;
 
-/// The most nodes that a descent passes before keys get hashes. No game that wasn't made for it comes near.
+/// The most nodes that a descent passes before keys get hashes: 64 in the print, 26 in the start of the stretch, and some on the board.
+/// Only a game that was made for it comes near.
 const MOST_PASSED: u32 = 128;
 
 /// The prints of colourings, oldest first, and a trie of their keys. Most colourings are never looked up, and no look-up comes before
@@ -61,7 +62,7 @@ pub(crate) struct Table {
     trie: Trie,
     /// Whether keys have hashes.
     hashed: bool,
-    /// The hashes that were worked out, of the oldest colourings; 0 for any other.
+    /// For each of the oldest colourings its hash; 0 if that isn't kept.
     hashes: Vec<u64>,
     /// While the table sleeps, how many colourings it has room for; 0 once it is awake.
     pub room_asleep: usize,
@@ -214,7 +215,7 @@ impl Table {
         self.room_asleep = room_of_both(&self.prints, &self.trie);
     }
 
-    /// Where a colouring with this print comes in; the number of one that has the print, if any has. Puts all colourings into the trie first.
+    /// Where a colouring with this print comes in; the number of one that has it, if any has. Puts all colourings into the trie first.
     pub(crate) fn gap(&mut self, past: &Colourings, print: u64) -> Result<Gap, usize>
         requires { IsAwakeTable (all_of past.now) self.old }
         ensures table { IsAwakeTable (all_of past.now) self.new }
@@ -270,7 +271,7 @@ impl Table {
         }
     }
 
-    /// The first position where a key differs from that of a past colouring. That one is worked out only if the heads don't differ.
+    /// The first position where a key differs from that of the colouring `near`. Rows are compared only if the heads don't differ.
     fn first_apart(&mut self, past: &Colourings, key: &ColouringKey<'_>, near: usize) -> Option<u32>
         requires table { IsAwakeTable (all_of past.now) self.old }
         requires number { near < length (all_of past.now) }
@@ -311,7 +312,7 @@ impl Table {
         hash
     }
 
-    /// Lets keys have hashes, and empties the trie, if keys have none and a descent by this one passes too many nodes. Returns whether it did.
+    /// Gives keys hashes and empties the trie, if keys have none and a descent by this key passes too many nodes. Returns whether it did.
     fn hash_if_deep(&mut self, key: &ColouringKey<'_>) -> bool
         requires table { (held : List Held) × IsAwakeTable held self.old }
         requires some { 0 < item_count self.old.trie }
