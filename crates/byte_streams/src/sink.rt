@@ -175,7 +175,7 @@ impl<W: Write + Drop> BufferedSink<W> {
         Ok(())
     }
 
-    /// Takes bytes for which there is no room. It writes all that is held back, then holds them back, or writes them if they are too many.
+    /// Takes bytes for which there is no room. It writes all that was held back, then holds these back, or writes them if too many.
     #[cold]
     fn put_without_room(&mut self, bytes: &[u8]) -> Result<usize, SinkFault>
         requires some { 0 < length bytes.now }

@@ -102,8 +102,7 @@ impl<'a> Outline<'a> {
         }
     }
 
-    /// The number of the sequence that sequence `i` goes on from, which ends with the parent of its first node. None if that node is a
-    /// root.
+    /// The number of the sequence that sequence `i` goes on from, which ends with the parent of its first node. None if `i` begins a game.
     pub fn sequence_outer(&self, i: usize) -> Option<usize>
         requires { i < length (sequence_starts self.now) }
         ensures { MatchOption result (parent_at self.now (sequence_start self.now i) ≡ Some None)
@@ -208,7 +207,7 @@ impl<'a> Outline<'a> {
         }
     }
 
-    /// Appends the nodes of sequence `i` as the sgf form writes them, copied segment by segment. If memory is refused, `out` is unchanged.
+    /// Appends the nodes of sequence `i` to `out` in sgf form, copied from the text in segments. If memory is refused, `out` is unchanged.
     pub fn push_sequence(&self, i: usize, out: &mut Vec<u8>) -> Result<(), MemoryFault>
         requires { i < length (sequence_starts self.now) }
         ensures appended { OnOk result (out.new.items

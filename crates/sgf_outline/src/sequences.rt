@@ -35,7 +35,7 @@ pub(crate) struct Sequence {
     pub end: u32,
     /// The number of its first node.
     pub number: u32,
-    /// The number of the sequence that it goes on from, or of the game that it begins, plus its flags. As fields, these would take 4 bytes.
+    /// The sequence that it goes on from, by number, or the game that it begins, plus its flags. As fields, these would take 4 bytes more.
     pub outer_and_flags: u32,
 }
 

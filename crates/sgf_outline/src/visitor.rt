@@ -12,8 +12,7 @@ use crate::layout::{OwnNodes, Segment};
 use crate::limit::MAX_LENGTH;
 use sgf_properties::MemoryFault;
 
-/// Keeps a part of what a reader reads: counts, sequences, or the places of all nodes too. After a refusal nothing is known of what is
-/// kept.
+/// Keeps a part of what a reader reads: counts, sequences, or all places too. If memory is refused, nothing is known of what is kept.
 pub trait Visitor: Drop {
     // What is kept is right for the games of a stack, and for what has come of a game that isn't on the stack yet.
     ghost keeps: { List ℕ → Self → Stack → Coming → Type 0 };

@@ -33,7 +33,7 @@ pub fn push_text(raw: &[u8], out: &mut Vec<u8>) -> Result<(), MemoryFault>
     Ok(())
 }
 
-/// A number of bytes at the front that stand for themselves, whatever follows: neither escapes nor white space. More may follow.
+/// A number of bytes at the front that stand for themselves, whatever follows: neither escapes nor white space. The next one may, too.
 fn literal_length(raw: &[u8]) -> usize
     ensures within { result ≤ length raw.now }
     ensures literal { text_of raw.now ≡ take result raw.now ++ text_of (drop result raw.now) }

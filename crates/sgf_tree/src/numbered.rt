@@ -10,7 +10,7 @@ use sgf_outline::{OwnNodes, Segment, Sequences, Visitor};
 use sgf_properties::MemoryFault;
 use std::alloc::Global;
 
-/// The most nodes that there is room for at once. Most games have fewer, and without room they would be moved each time their vector grows.
+/// The most nodes that there is room for at once. Most games have fewer. Without room, nodes would be moved each time their vector grows.
 const ROOM_FOR_NODES: usize = 128;
 
 /// The bytes of a short node, such as `;B[pd]`. Few nodes have fewer.

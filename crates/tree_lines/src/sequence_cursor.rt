@@ -1,5 +1,5 @@
-//! Going over the lines of play of a collection, sequence by sequence. A sequence has the nodes between a `(` and the next parenthesis. So
-//! a cursor goes over a game without variations in one step, however many nodes it has.
+//! Going over the lines of play of a collection, sequence by sequence. A sequence is the nodes between a `(` and the next parenthesis. A
+//! line is whole sequences, so a cursor goes over a game without variations in one step, however many nodes it has.
 
 ghost use Rattle.std.specs.Prelude.{◌≡◌, ◌+◌, ◌-◌, ◌<◌, ◌≤◌, ◌++◌, None, Some, [], length, slice_get, option_map, IfOk, IfErr, IfSome, IfNone, OnOk, OnErr, MatchOption};
 ghost use Rattle.std.specs.List.{flat_map, range_with_len};
@@ -344,7 +344,7 @@ fn measure(outline: &Outline<'_>, last: usize) -> Front
     Front { sequences, nodes }
 }
 
-/// Writes to `path` the numbers of the sequences from the root to the end of a sequence. `line` is the measure of the line to there.
+/// Fills `path` with the numbers of the sequences from the root to the end of a sequence. `line` is the measure of the line to there.
 #[tactic(auto, using(crate::proofs::SequenceStarts::fewer, crate::proofs::SequenceClimbing::fills, crate::proofs::SequenceClimbing::room_for, crate::proofs::SequenceClimbing::fill_begins))]
 fn fill_path(outline: &Outline<'_>, last: usize, line: Front, path: &mut [u32])
     requires within { last < length (sequence_starts outline.now) }

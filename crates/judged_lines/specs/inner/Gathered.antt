@@ -58,8 +58,8 @@ IsSetup side (Meant player) ops stones players =
     (operations stones side ≡ Some ops) × (last_player None players ≡ Some player) × (0 < length stones + length players)
 IsSetup side Faulty ops stones players = (operations stones side ≡ None) ⊎ (last_player None players ≡ None)
 
--- what a setup becomes with the values of one more property: None means that one of them names neither a rectangle of the board nor a
--- player; Some has the last player that they name, if there is one
+-- what a setup becomes with the values of one more property: None means that one of them is faulty (stones that name no rectangle of
+-- the board, or a PL that names no player); Some has the last player that they name, if there is one
 abbrev pub setup_with : Setup → Option (Option Colour) → Setup
 setup_with setup None = Faulty
 setup_with NoSetup (Some last) = Meant last

@@ -1,5 +1,5 @@
 //! What a node holds for the referee and for a script: moves, stones and players (SGF FF[4], move and setup properties), and a comment. It
-//! is gathered in one pass over the node's properties. What raw values say on a board stands here, too (SGF FF[4], "Move" and "Color").
+//! is gathered in one pass over its properties (`step`). What raw values say on a board stands here, too (SGF FF[4], "Move" and "Color").
 
 ghost use Rattle.std.specs.Prelude.{◌≡◌, ◌∷◌, ◌++◌, [], ℕ, List, Option, IfOk, IfSome, IsSome, OnOk};
 ghost use Rattle.sgf_outline.specs.Tree.{Property, lone_property, values};
@@ -87,7 +87,7 @@ impl<'a> Contents<'a> {
         contents
     }
 
-    /// Adds what a property holds, on a board of that size. Unless the setup is faulty, `operations` has those of the stones, in order.
+    /// Adds what a property holds, on a board of that size. Unless the setup is faulty, `operations` gets those of its stones, in order.
     pub(crate) fn take(
         &mut self,
         property: &PropRef<'a>,
@@ -146,8 +146,8 @@ fn push_rectangles(
     Ok(true)
 }
 
-/// A setup with the values of one more property. `named` is None if one of them names neither a rectangle of the board nor a player. Else
-/// it is the last player that they name, if there is one. This player replaces those before.
+/// A setup with the values of one more property. `named` is None if one of them is faulty (`Setup::Faulty`). Else it is the last player
+/// that they name, if there is one; stones name none. This player replaces those before.
 fn with_values(setup: Setup, named: Option<Option<Colour>>) -> Setup
     ensures { result ≡ setup_with setup named }
 {
@@ -158,7 +158,7 @@ fn with_values(setup: Setup, named: Option<Option<Colour>>) -> Setup
     }
 }
 
-/// The player that the last value of a PL names; None if one of its values names no player.
+/// The player that the last value of a PL names, as `with_values` takes it: never `Some(None)`. None if some value names no player.
 fn last_player(property: &PropRef<'_>) -> Option<Option<Colour>>
     ensures last { (before : Option Colour) → last_player_rule before (values property.now) ≡ result }
     ensures some { IfSome result IsSome }
@@ -171,7 +171,7 @@ fn last_player(property: &PropRef<'_>) -> Option<Option<Colour>>
     Some(Some(last))
 }
 
-/// What the values of a property are; None if neither the referee nor a script needs them. So KM, HA, KO, MA, RE and others have no effect.
+/// What the values of a property are; None if neither the referee nor a script needs them. So KM, HA, KO, RE and all others have no effect.
 fn kind_of(property: &PropRef<'_>) -> Option<Kind>
     ensures { result ≡ kind_of_rule property.now }
 {

@@ -1,5 +1,5 @@
 //! A judge goes along the nodes of a line, and back to the last node that the next line shares. It keeps the score of a board of its line
-//! once asked for. Many lines may end on one board, as lines that differ only in a pass or an empty node do. Its score is worked out once.
+//! once it was asked for. Many lines may end on one board, as lines that differ in a pass or an empty node do. It is worked out once.
 
 ghost use Rattle.std.specs.Prelude.{◌≡◌, ◌+◌, ◌<◌, IsFalse, IsTrue, OnOk, OnErr, IfOk, Some, option_copied};
 ghost use Rattle.sgf_outline.specs.Tree.{Node};

@@ -98,7 +98,7 @@ fn take_any_step<'a, P: Past>(
     take_contents(referee, contents, operations)
 }
 
-/// Takes the step of a node with these contents. `operations` has those of the node's stones. The first reason that holds is given: `mixed`
+/// Takes the step of a node with these contents. `operations` are those of the node's stones. The first reason that holds is given: `mixed`
 /// (a move and a setup, even a faulty one), `two-moves`, `bad-setup`, which `Contents::take` found, `bad-point`, and then those of
 /// `Referee::turn`. Of the arms only the last must stay last: those of `two-moves` and `bad-setup` are for nodes that aren't mixed.
 #[inline(always)]

@@ -90,7 +90,7 @@ impl Pieces {
         Ok(())
     }
 
-    /// Appends to the unfinished piece what a step adds to a script; `grid` is the board after it. After refused memory no piece is left.
+    /// Appends to the unfinished piece what a legal step adds to a script. `grid` is the board after it. Refused memory leaves no pieces.
     pub(crate) fn push_step(&mut self, step: LegalStep<'_>, grid: &Board) -> Result<(), MemoryFault>
         requires letters { grid.now.side ≤ MAX_VERTEX_SIDE }
         requires playable { IsPlayable grid.now.side step.effect }

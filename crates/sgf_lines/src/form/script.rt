@@ -87,6 +87,7 @@ impl StepKeeper for Script {
         }
         self.pieces.push_step(step, board)?;
         self.pieces.close()?;
+        // only a setup can leave a stone without a liberty
         let stones = matches!(step.effect, Effect::Stones);
         if self.said == count && !(stones && board.has_unreaching()) {
             self.said = self.pieces.count();

@@ -1,5 +1,5 @@
 //! Recognizing at a glance a node that is a move and then properties that don't matter to the caller, one without properties, and one that
-//! begins with a lone property. Moves are recognized by one comparison of sixteen bytes, each with the least and the greatest in its place.
+//! begins with a lone property. Moves are recognized by one comparison of sixteen bytes, each with the least and the greatest allowed.
 
 ghost use Rattle.std.specs.Prelude.{◌≡◌, ◌≤◌, ◌<◌, ◌+◌, ◌%◌, length, IsTrue, IfSome};
 ghost use Rattle.sgf_outline.specs.Move.{IsMoveNode, EndsNode};
@@ -44,8 +44,7 @@ pub(crate) fn is_empty_node(text: &[u8]) -> bool
     text.len() > 1 && text[0] == b';' && b' ' < text[1] && text[1] < b'A'
 }
 
-/// Whether the first property of the node at the front of the text is written like `B[pd]`, and has no other value. Its `;` isn't looked
-/// at.
+/// Whether the first property of the node at the text's front is written like `B[pd]`, and has no other value. The `;` isn't looked at.
 pub(crate) fn is_lone_front(text: &[u8]) -> bool
     ensures { IsTrue result → IsLoneFront text.now }
 {

@@ -17,8 +17,7 @@ pub fn near_property_close(text: &[u8], at: usize) -> Option<usize>
         return None;
     }
     // A byte stops a property such as `BL[921.325]` if it is at most so much above the least one. At first any byte but two capitals and a
-    // `[` does, and then a `]` or a `\`. This wraps: 91 comes after `Z`, and 229 bytes further is the byte before `A`. 92 is `\`, before
-    // `]`.
+    // `[` does, then a `]` or a `\`. This wraps: 91 comes after `Z`, and 229 bytes on is the byte before `A`. `[`, `\`, `]` are 91 to 93.
     let least = u8x16::from_array([
         91, 91, 92, 92, 92, 92, 92, 92, 92, 92, 92, 92, 92, 92, 92, 92,
     ]);

@@ -8,7 +8,7 @@ ghost use Rattle.sgf_properties.specs.KeptLengths.{AreKeptLengths};
 use crate::value::LongValue;
 use std::simd::prelude::*;
 
-/// The number of bytes that are compared before a search is begun, which costs more. Sizes, names and clock times are short.
+/// The number of bytes that are compared before a search, which costs more to begin. Sizes, names and clock times are short.
 pub const NEAR: usize = 16;
 
 /// The offset of the `]` that ends the raw value at `at`, if the value is short, as most are. Offsets are in bytes, from 0.

@@ -9,7 +9,7 @@ ghost use Rattle.sgf_tree.specs.inner.PropertiesRead.{AreValuesEnded, StandsIn, 
 use sgf_outline::near_property_close;
 use sgf_properties::{capital_at, near_value_end, short_name_end, skip_white_space};
 
-/// A property is read at a glance only if so many bytes are left: two letters, a `[`, 16 bytes that may have the `]`, and one after these.
+/// A property is read at a glance only if at least this many bytes are left: two letters, a `[`, 16 that may have the `]`, and one more.
 const GLANCE: usize = 20;
 
 /// How far a part of a text was read that the sgf form copies in one piece.
@@ -62,7 +62,7 @@ fn after_move(text: &[u8], at: usize) -> Option<ShortRead>
     Some(read)
 }
 
-/// Reads at a glance the property whose identifier begins at `start`, if it has a name of one or two letters and one short value, as usual.
+/// Reads at a glance the property whose identifier begins at `start`, if it has one or two letters and one short value, as most have.
 #[inline(always)]
 pub(crate) fn read_short_property(text: &[u8], start: usize) -> Option<ShortRead>
     requires within { start < length text.now }

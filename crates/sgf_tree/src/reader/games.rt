@@ -62,7 +62,7 @@ pub(crate) fn read_games<K: Visitor>(
     Ok(())
 }
 
-/// Reads the own nodes of the game whose `(` is just before `at`: Sequence = Node { Node }. Returns the offset after them and white space.
+/// Reads the own nodes of the game whose `(` is just before `at`: Sequence = Node { Node }. Returns the offset after their white space.
 fn read_sequence<K: Visitor>(
     text: &[u8],
     at: usize,

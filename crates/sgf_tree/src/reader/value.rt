@@ -7,7 +7,7 @@ ghost use Rattle.sgf_tree.specs.inner.PropertiesRead.{MayReadValue, AreValuesRea
 use crate::fault::ReadFault;
 use sgf_properties::{LongValue, far_value_end, past_points, short_value_end};
 
-/// The least length of a value whose length is kept. A search over this costs more than a look-up. Nearly all comments are shorter.
+/// The least length in bytes of a value whose length is kept. A search over these costs more than a look-up. Few comments are as long.
 const LONG: usize = 4096;
 
 /// Reads the value whose `[` is at `at`, and keeps its length if the value is long. Returns the offset of its `]`.
