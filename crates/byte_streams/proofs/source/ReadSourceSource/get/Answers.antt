@@ -15,4 +15,4 @@ returns-in-Ok-clause-gets g c = (
 )
 
 pub returns-clause-gets : goal.returns-clause-gets
-returns-clause-gets g c = search rules
+returns-clause-gets g c = record { failures = search rules; given = tt; to_come = search rules }
