@@ -2,7 +2,7 @@
 pub use Rattle.std.proofs.Common.{All, Bool, IsTrue, List, MatchOption, None, Option, Some, [], ap, append-nil, append_assoc, arith, cond, drop, drop-drop, eq-eqb, eqb, eqb-true, false, flat_map, get_or, get_or-append-add, get_or-drop, inl, inr, le-leb, le-ltb, length, length-append, length-drop, lt-ltb, map, nat_eq, ne_eqb, not, option_map, refl, rules, slice_get, slice_range, subst, suc, sym, take, true, zero, ℕ, ◌%◌, ◌++◌, ◌+◌, ◌-◌, ◌/◌, ◌<◌, ◌^◌, ◌∙◌, ◌∷◌, ◌≡◌, ◌≢◌, ◌≤◌, ◌⊎◌}
 pub use Rattle.std.proofs.lemmas.Bool.{and_from, cases_lt, false≢true, or_left}
 pub use Rattle.std.proofs.lemmas.Grind.{common_steps}
-pub use Rattle.std.proofs.lemmas.List.{drop-append-le, drop_all, drop_more, get_or-append_right, get_or_default, get_or_past, length-map, map-append, take_rest, take_all}
+pub use Rattle.std.proofs.lemmas.List.{drop-append-le, drop_all, drop_more, get_or-append_right, get_or_default, get_or_past, length-map, map-append, take_at, take_rest, take_all}
 pub use Rattle.std.proofs.lemmas.List.Elements.{All-append, All-cons, All-more, All-nil, All-push}
 pub use Rattle.std.proofs.lemmas.Option.{get_or_from_slice_get, same_Some, slice_get-get_or, slice_get-map, slice_get_cases, slice_get_read, slice_get_within}
 pub use Rattle.std.specs.List.{range_with_len}

@@ -1,4 +1,4 @@
-use Rattle.sgf_outline.proofs.Common.{rules, arith, append_assoc, common_steps}
+use Rattle.sgf_outline.proofs.Common.{◌≡◌, ◌∙◌, ap, arith, append_assoc, common_steps, length, rules, take, take_at}
 use Rattle.sgf_properties.proofs.GoingOn.{goes_on_on}
 use Rattle.sgf_outline.proofs.node.NodeRef.push_to.Goals as goal
 
@@ -9,4 +9,7 @@ loop-property-preserved c = record {
 }
 
 pub returns-then-is_err-clause-unchanged : goal.returns-then-is_err-clause-unchanged
-returns-then-is_err-clause-unchanged c = grind (arith, common_steps) steps 2000000
+returns-then-is_err-clause-unchanged c =
+    let same : c.push_property.new.out.items ≡ c.loop-property.out.items = search rules in
+    let count : length c.args.out.now.items ≡ c.len-before.result = omega (arith, c.len-before.ensures, c.args.out.now.ok.0) in
+    c.truncate.ensures.items ∙ ap (take c.len-before.result) (same ∙ c.loop-property.invariant.goes_on.1) ∙ take_at _ _ _ count

@@ -1,4 +1,4 @@
-use Rattle.sgf_outline.proofs.Common.{◌≡◌, None, arith, rules, common_steps, outer_by}
+use Rattle.sgf_outline.proofs.Common.{◌≡◌, ◌∙◌, None, sym, arith, rules, common_steps, outer_by}
 use Rattle.sgf_outline.proofs.Outlined.{IsEntryOf, entry-in, game-outer, outer-none}
 use Rattle.sgf_outline.proofs.outline.Outline.game_of.Goals as goal
 use Rattle.sgf_outline.proofs.outline.Outline.game_of.Goals.{After-index}
@@ -16,4 +16,4 @@ pub game-requires : goal.game-requires
 game-requires c = root (goal.at.game-requires c).After-index
 
 pub returns : goal.returns
-returns c = search (rules, entry, root)
+returns c = let w = goal.at.returns c in let h = (entry w.After-index).root_is (root w.After-index) in c.game.ensures ∙ sym h.1 ∙ c.climb.invariant.same

@@ -1,4 +1,4 @@
-use Rattle.sgf_outline.proofs.Common.{common_steps, ◌≡◌, ◌+◌, ◌∙◌, [], ◌∷◌, ◌++◌, drop, slice_range, refl, sym, ap, arith, append_assoc, append-nil, rules, flat_map, nodes_at, sequence_numbers, AreWhole, node_text}
+use Rattle.sgf_outline.proofs.Common.{◌≡◌, ◌+◌, ◌∙◌, [], ◌∷◌, ◌++◌, drop, length, slice_range, refl, sym, ap, arith, append_assoc, append-nil, rules, take, take_at, flat_map, nodes_at, sequence_numbers, AreWhole, node_text}
 use Rattle.sgf_outline.proofs.Outlined.{IsEntryOf, entry-in}
 use Rattle.sgf_outline.proofs.SegmentsKept.{text_by, whole-first, whole-within}
 use Rattle.sgf_outline.proofs.outline.Outline.push_sequence.Goals as goal
@@ -59,4 +59,7 @@ segments-preserved c =
     search (rules, first, slice_range, append_assoc)
 
 pub returns-then-is_err-clause-unchanged : goal.returns-then-is_err-clause-unchanged
-returns-then-is_err-clause-unchanged c = grind (arith, common_steps) steps 400000
+returns-then-is_err-clause-unchanged c =
+    let same : c.extend_from_slice-in-segments.new.self.items ≡ c.segments.out.items = search rules in
+    let count : length c.args.out.now.items ≡ c.len-before.result = omega (arith, c.len-before.ensures, c.args.out.now.ok.0) in
+    c.truncate.ensures.items ∙ ap (take c.len-before.result) (same ∙ c.segments.invariant.goes_on.1) ∙ take_at _ _ _ count
