@@ -1,0 +1,5 @@
+use Rattle.std.proofs.Common.{rules}
+use Rattle.sgf_properties.proofs.scan.capital_at.Goals as goal
+
+pub returns-then-at-text-clause-stands : goal.returns-then-at-text-clause-stands
+returns-then-at-text-clause-stands c = search rules
