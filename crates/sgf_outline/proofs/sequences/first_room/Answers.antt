@@ -1,5 +1,5 @@
-use Rattle.std.proofs.Common.{rules}
+use Rattle.std.proofs.Common.{arith}
 use Rattle.sgf_outline.proofs.sequences.first_room.Goals as goal
 
 pub returns : goal.returns
-returns c = search rules
+returns c = omega arith
