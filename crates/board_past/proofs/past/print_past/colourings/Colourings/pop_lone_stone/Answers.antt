@@ -1,4 +1,4 @@
-use Rattle.board_past.proofs.Common.{◌≡◌, ◌+◌, ◌++◌, [], ◌∷◌, false, true, List, length, drop, cond, reverse, refl, ap, sym, subst, ◌∙◌, arith, rules, length-reverse, reverse-append, Empty, has_unreaching, Grid, with_cell, Change, after_changes, before, changes_before, is_full, IsPast}
+use Rattle.board_past.proofs.Common.{◌≡◌, ◌+◌, ◌++◌, [], ◌∷◌, false, true, List, length, drop, cond, reverse, refl, ap, sym, subst, ◌∙◌, arith, rules, length-reverse, reverse-append, Empty, has_unreaching, Grid, with_cell, Change, after_changes, before, changes_before, is_full, AreKept, IsPast, Older}
 use Rattle.board_past.proofs.ColouringsLemmas.{length-held, lone_step, none_kept, past-pop}
 use Rattle.board_past.proofs.past.print_past.colourings.Colourings.pop_lone_stone.Goals as goal
 use Rattle.board_past.proofs.past.print_past.colourings.Colourings.pop_lone_stone.Goals.{After-pop}
@@ -8,6 +8,9 @@ module _ (c : After-pop) (alone : c.unwrap-kept.result.now.alone ≡ true) where
   pub parts : c.self.inside.older.items ≡ c.pop.new.self.items ++ c.unwrap-kept.result.now ∷ []
   parts = search rules
 
+  pub turned : reverse c.self.inside.older.items ≡ c.unwrap-kept.result.now ∷ reverse c.pop.new.self.items
+  turned = ap reverse parts ∙ reverse-append c.pop.new.self.items (c.unwrap-kept.result.now ∷ [])
+
   pub board : before c.self.inside.newest c.unwrap-kept.result.now c.self.inside.changes.items ≡ with_cell c.self.inside.newest c.unwrap-kept.result.now.point Empty
   board = ap (λ b. cond b (with_cell c.self.inside.newest c.unwrap-kept.result.now.point Empty) (after_changes c.self.inside.newest (drop c.unwrap-kept.result.now.start c.self.inside.changes.items))) alone
 
@@ -16,6 +19,12 @@ module _ (c : After-pop) (alone : c.unwrap-kept.result.now.alone ≡ true) where
 
   pub lone : (has_unreaching (with_cell c.self.inside.newest c.unwrap-kept.result.now.point Empty) ≡ false) × (is_full (length c.pop.new.self.items) ≡ false) × (c.self.inside.stretch_start ≡ c.unwrap-kept.result.now.stretch_start)
   lone = rw (← board) (lone_step c.self.inside.newest c.self.inside.stretch_start c.self.inside.older.items c.pop.new.self.items c.unwrap-kept.result.now c.self.inside.changes.items parts c.self.invariant.0 alone)
+
+pub set-requires : goal.set-requires
+set-requires c =
+    let w = (goal.at.set-requires c).After-pop in
+    let alone : c.unwrap-kept.result.now.alone ≡ true = search rules in
+    ((subst (λ (os : List Older). AreKept c.self.inside.newest os c.self.inside.changes.items) (turned w alone) c.self.invariant.0.kept).1 alone).0
 
 pub set_settled-requires : goal.set_settled-requires
 set_settled-requires c = λ _.
@@ -41,8 +50,7 @@ returns-clause-taken_back c = λ _.
     let p = c.self.inside in
     let w = (goal.at.returns-clause-taken_back c).After-pop in
     let alone : c.unwrap-kept.result.now.alone ≡ true = search rules in
-    let turned = ap reverse (parts w alone) ∙ reverse-append c.pop.new.self.items (c.unwrap-kept.result.now ∷ []) in
-    rw (sym c.self.view_is) (simp (turned, board w alone, none w alone, (lone w alone).2, c.set_settled.ensures, c.set.ensures) refl)
+    rw (sym c.self.view_is) (simp (turned w alone, board w alone, none w alone, (lone w alone).2, c.set_settled.ensures, c.set.ensures) refl)
 
 pub returns-clause-settled : goal.returns-clause-settled
 returns-clause-settled c = λ _.

@@ -16,7 +16,16 @@ returns-in-Some c =
     links_with held t t c.insert_parted.new.self is c.requires.unlinked.more c.insert_parted.ensures.room c.insert_parted.ensures.more
     (c.insert_parted.ensures.trie WIDTH keys FRONT is.linked (omega (arith, apart.0)) descent apart.0 parts.0 parts.1)
 
--- these two are only there for speed
+-- the rest is only there for speed
+pub returns-then-number-eq0 : goal.returns-then-number-eq0
+returns-then-number-eq0 c =
+    let t = c.args.self.now in
+    links_with (all_of c.args.past.now) t t c.insert_first.new.self c.requires.unlinked.table c.requires.unlinked.more c.insert_first.ensures.room
+    (omega (arith, c.insert_first.ensures.one, c.len-number.ensures, c.if-number-eq0.true)) (c.insert_first.ensures.trie WIDTH (keys_of t.hashed (all_of c.args.past.now)))
+
+pub descend-from-requires-clause-some : goal.descend-from-requires-clause-some
+descend-from-requires-clause-some c = omega (arith, c.len-number.ensures, c.if-number-eq0.false)
+
 pub key_of-key-requires-clause-number : goal.key_of-key-requires-clause-number
 key_of-key-requires-clause-number c =
     omega (arith, c.len-number.ensures, c.requires.unlinked.more, tabled (all_of c.args.past.now) c.args.self.now c.requires.unlinked.table)

@@ -6,6 +6,10 @@ pub returns-then-known-ne0-clause-hash : goal.returns-then-known-ne0-clause-hash
 returns-then-known-ne0-clause-hash c = λ grid at.
     c.kept_hash-known.ensures (all_of c.args.past.now) grid c.requires.table.kept at c.if-known-ne0.true ∙ ap (λ (on : Bool). if on then hash_of grid else 0) (sym c.if-not-self.false)
 
+pub returns-clause-hash : goal.returns-clause-hash
+returns-clause-hash c = λ grid at.
+    c.hash_of-hash.ensures ∙ at_number (all_of c.args.past.now) c.args.number c.board_at.result grid c.board_at.ensures at ∙ ap (λ (on : Bool). if on then hash_of grid else 0) (sym c.if-not-self.false)
+
 pub returns-clause-table : goal.returns-clause-table
 returns-clause-table c =
     let held = all_of c.args.past.now in
