@@ -31,6 +31,9 @@ invariant_of-self-in_err-set_up g c = rw (c.in_err-set_up.ensures.err, c.in_ok-r
 pub returns-in_err-set_up-clause-err : goal.returns-in_err-set_up-clause-err
 returns-in_err-set_up-clause-err g c = on_err c.from_residual-in_err-set_up.result _ (rw (c.in_err-set_up.ensures.err, c.in_ok-reserve.ensures.items) c.self.view_is)
 
--- by a search, since a term would name a step that a wrong body doesn't have
+-- these two by a search, since a term would name a step that a wrong body doesn't have
 pub returns-then-is_empty-clause-ok : goal.returns-then-is_empty-clause-ok
 returns-then-is_empty-clause-ok g c = grind (arith, common_steps)
+
+pub returns-clause-ok : goal.returns-clause-ok
+returns-clause-ok g c = grind (arith, common_steps)
