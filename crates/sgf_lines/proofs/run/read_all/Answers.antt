@@ -27,6 +27,9 @@ returns-then-len-count-clause-answer g c =
       );
     }
 
+pub returns-then-len-count-clause-failures : goal.returns-then-len-count-clause-failures
+returns-then-len-count-clause-failures g c = omega (arith, c.in-Ok.ensures.gets.1.failures, c.read.invariant.has_read.failures)
+
 pub returns-in_err-extend_from_slice-clause-answer : goal.returns-in_err-extend_from_slice-clause-answer
 returns-in_err-extend_from_slice-clause-answer g c =
     let start = g.S.Source.state c.args.source.now in
