@@ -1,5 +1,5 @@
 -- No more bytes are asked for at once than may be. What the last call gave is not always kept.
-use Rattle.std.proofs.Common.{◌++◌, take, refl, arith, length-append, rules, length-take-le}
+use Rattle.std.proofs.Common.{◌++◌, ◌∙◌, take, refl, arith, length-append, rules, length-take-le}
 use Rattle.std.proofs.KnownBytes.{Appends-kept, Appends-trans, Consumes-kept, Consumes-trans}
 use Rattle.std.proofs.lemmas.Result.{err_from_is_err_and}
 use Rattle.std.proofs.lemmas.Grind.{common_steps}
@@ -26,9 +26,6 @@ returns-then-len-count-clause-answer g c =
         omega (arith, length-append text more, length-take-le c.in-Ok.count c.get.new.buffer gave.0, gave.0, c.get.auto.buffer, c.read.invariant.bound, c.read.invariant.room, c.read.text.ok.0),
       );
     }
-
-pub returns-then-len-count-clause-failures : goal.returns-then-len-count-clause-failures
-returns-then-len-count-clause-failures g c = omega (arith, c.in-Ok.ensures.gets.1.failures, c.read.invariant.has_read.failures)
 
 pub returns-in_err-extend_from_slice-clause-answer : goal.returns-in_err-extend_from_slice-clause-answer
 returns-in_err-extend_from_slice-clause-answer g c =
@@ -58,6 +55,10 @@ pub read-preserved : goal.read-preserved
 read-preserved g c = record {
   bound = grind (arith, common_steps, length-append, length-take-le);
   room = omega arith;
-  has_read = search (rules, Appends-trans, Consumes-trans, length-append, length-take-le);
+  has_read =
+      let gave = c.in-Ok.ensures.gets.1 in
+      let read = c.read.invariant.has_read in
+      rw c.in_ok-extend_from_slice.ensures.items
+      (record { gives = Appends-trans _ _ _ _ _ read.gives gave.given; consumes = Consumes-trans _ _ _ _ _ read.consumes gave.to_come; failures = gave.failures ∙ read.failures });
   end_answers = omega (arith, c.in-Ok.ensures.end_answers);
 }
