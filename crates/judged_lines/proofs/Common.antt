@@ -43,7 +43,7 @@ pub use Rattle.judged_lines.specs.Step.{move_step, setup_step, step, step_by, tu
 pub use Rattle.judged_lines.specs.Verdict.{BadSize, NotGo, Verdict, IsVerdictAt, judged_nodes, judged_on, score_in, verdict, verdict_at, verdict_by, verdict_of}
 pub use Rattle.judged_lines.specs.Walk.{before_root, HasIllegal, IllegalNode, IsAfter, judged_by, legal_on, LegalNode, next, no_node, one_node, Walk, walk}
 pub use Rattle.judged_lines.specs.inner.Gathered.{AddsRectangles, AreMoves, ComesAs, HoldsAlone, IsGathered, IsSetup, kind_of, setup_with}
-pub use Rattle.judged_lines.specs.inner.Judging.{back, back_from, back_to, IsDecided, IsScoreAt, IsScoreOf, IsStepFrom, IsStepped, IsUndecided, judgement_of, Judging, legal_by, state_after, state_of, verdict_in}
+pub use Rattle.judged_lines.specs.inner.Judging.{back, back_from, back_to, IsDecided, IsScoreAt, IsScoreOf, IsStepFrom, IsStepped, IsUndecided, setup_effect, judgement_of, Judging, legal_by, state_after, state_of, verdict_in}
 pub use Rattle.judged_lines.specs.inner.Keeping.{WentOn}
 pub use Rattle.std.proofs.lemmas.List.Folds.{find-append, list_any-append}
 pub use Rattle.tree_lines.proofs.LineNodes.{as_long, as_many, line_is, named_in, some_before}

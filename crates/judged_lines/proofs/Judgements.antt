@@ -1,11 +1,10 @@
 -- A line's judgement goes on by a node, and back to its first nodes.
-use Rattle.judged_lines.proofs.Common.{◌≡◌, ℕ, ◌<◌, ◌≤◌, List, [], ◌∷◌, length, refl, ap, ◌∙◌, arith, suc, ◌+◌, ◌++◌, take, drop, Option, Some, None, Result, Ok, Err, sym, subst, length-append, append-nil, append_assoc, rules, fold, take_all, take-append-drop, length-take-le, lt-leb, common_steps, take-append-le, Node, Reason, State, States, followed_by, Verdict, GameKind, not_go, bad_size, board, Judgement, unjudged, judged, begun_game, after, judging, board_in, step, verdict_at, verdict_by, judged_on, LegalNode, IllegalNode, Walk, before_root, next, walk, legal_on, judged_by, back_from, back_to, Judging, IsDecided, IsUndecided, judgement_of, back, verdict_in, state_after, state_of, legal_by, fold-append, NotGo, BadSize, le-leb}
+use Rattle.judged_lines.proofs.Common.{◌≡◌, ℕ, ◌<◌, ◌≤◌, List, [], ◌∷◌, length, refl, ap, ◌∙◌, arith, suc, ◌+◌, ◌++◌, take, drop, Option, Some, None, Ok, Err, sym, subst, length-append, append-nil, append_assoc, rules, fold, take_all, take-append-drop, length-take-le, lt-leb, common_steps, take-append-le, Node, Reason, State, States, followed_by, Verdict, GameKind, not_go, bad_size, board, Judgement, unjudged, judged, begun_game, after, judging, board_in, step, verdict_at, verdict_by, judged_on, IllegalNode, Walk, before_root, next, walk, legal_on, judged_by, back_from, back_to, Judging, IsDecided, IsUndecided, judgement_of, back, verdict_in, state_after, state_of, legal_by, fold-append, NotGo, BadSize, le-leb}
 use Rattle.judged_lines.specs.inner.Judging.{side_in}
 use Rattle.judged_lines.specs.Judgement.{stepped}
 use Rattle.judged_lines.specs.declared.verdict.Verdict.TheVariants.{Illegal}
 use Rattle.judged_lines.specs.Walk.{next_by}
 use Rattle.judged_lines.proofs.Walking.{StandsAfter, next_is, one_judged}
-use Rattle.judged_lines.specs.Walk as along
 
 -- nothing to take back
 pub back_none : (states : States) (depth : ℕ) → length states.earlier ≤ depth → back_to states depth ≡ states

@@ -1,5 +1,5 @@
 -- A node's step by what is gathered of it.
-use Rattle.judged_lines.proofs.Common.{◌≡◌, ◌⊎◌, ◌<◌, ℕ, Option, Some, None, List, [], ◌∷◌, length, Ok, Err, refl, sym, ap, ◌∙◌, arith, rules, Result, option_and_then, IsSome, common_steps, Node, SetupOp, Colour, TurnFault, Reason, States, turned, followed_by, State, Meant, moves, stones, players, player_value, operations, last_player, turn_step, move_step, setup_step, step_by, step, IsSetup, IsStepped, Move, Stones, IsErrOf, ◌↔◌}
+use Rattle.judged_lines.proofs.Common.{◌≡◌, ◌⊎◌, ◌<◌, ℕ, Option, Some, None, List, [], ◌∷◌, length, Ok, Err, refl, sym, ap, ◌∙◌, arith, rules, Result, option_and_then, IsSome, common_steps, Node, SetupOp, Colour, TurnFault, Reason, States, turned, followed_by, State, Nothing, Meant, IsEffectBy, AreMoves, setup_effect, moves, stones, players, player_value, operations, last_player, turn_step, move_step, setup_step, step_by, step, IsSetup, IsStepped, Move, Stones, IsErrOf, ◌↔◌}
 use Rattle.go_board.specs.declared.referee.plays.Play.{Play}
 use Rattle.go_board.specs.declared.fault.TurnFault.TheVariants.{Illegal, Memory}
 use Rattle.go_board.specs.Reason.{reason_of}
@@ -30,6 +30,11 @@ no_reason o known = search rules
 -- what there is to set up
 pub something : (side : ℕ) (ops : List SetupOp) (player : Option Colour) (ts : List Stones) (ps : List (List ℕ)) → IsSetup side (Meant player) ops ts ps → (0 < length ops) ⊎ IsSome player
 something side ops player ts ps h = grind (arith, common_steps, players_none, stones_none)
+
+-- their effects
+pub meant_effect : (side : ℕ) (ms : List Move) (ops : List SetupOp) (player : Option Colour) (ts : List Stones) (ps : List (List ℕ)) → AreMoves Nothing ms → IsSetup side (Meant player) ops ts ps
+    → IsEffectBy side ms ts (setup_effect ops)
+meant_effect side ms ops player ts ps known known2 = grind (arith, common_steps, stones_none)
 
 -- a turn that was taken, or refused
 pub takes_turn : (old new : States) (k : Colour) (play : Play) (u : Unit {0}) → ((r : Reason) → IsErrOf (Ok u) (Illegal r) ↔ (reason_of old.present k play ≡ Some r))

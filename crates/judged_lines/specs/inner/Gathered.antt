@@ -1,5 +1,5 @@
 -- What is gathered from a node's properties, one after the other.
-use Rattle.std.specs.Prelude.{◌≡◌, ◌⊎◌, ◌<◌, ◌+◌, ℕ, Bool, true, false, if◌then◌else◌, Option, Some, None, List, [], ◌∷◌, ◌++◌, length, All, MatchBool, codes, bytes_eq, option_copied}
+use Rattle.std.specs.Prelude.{◌≡◌, ◌⊎◌, ◌<◌, ◌+◌, ℕ, Bool, if◌then◌else◌, Option, Some, None, List, [], ◌∷◌, ◌++◌, length, All, MatchBool, codes, bytes_eq, option_copied}
 use Rattle.std.specs.List.{flat_map}
 use Rattle.sgf_outline.specs.Tree.{Property, Node, lone_property, told_property}
 use Rattle.sgf_outline.specs.declared.traversal.NextNode.{NextNode}

@@ -1,4 +1,7 @@
 -- How a judge in memory comes to its judgement: by a referee's states, which it takes back for the next line, and by the step of each node.
+use Rattle.board_stones.specs.declared.setup_op.SetupOp.{SetupOp}
+use Rattle.judged_lines.specs.declared.judging.step.Effect.{Effect}
+use Rattle.judged_lines.specs.declared.judging.step.Effect.TheVariants.{Nothing, Stones as stones_set}
 use Rattle.std.specs.Prelude.{◌≡◌, ◌≤◌, ℕ, Option, Some, None, List, [], ◌∷◌, length, nat_le, if◌then◌else◌, unwrap_or, Result, Ok, Err}
 use Rattle.sgf_outline.specs.Tree.{Node}
 use Rattle.go_board.specs.declared.reason.Reason.{Reason}
@@ -110,3 +113,8 @@ abbrev pub IsStepFrom : Judgement → Node → Option LegalStep → Type 0
 IsStepFrom judgement node None = state_after judgement node ≡ None
 IsStepFrom judgement node (Some taken) =
     (state : State) × (state_after judgement node ≡ Some state) × IsStepOf (side_in judgement) node taken
+
+-- the effect of a setup
+abbrev pub setup_effect : List SetupOp → Effect
+setup_effect [] = Nothing
+setup_effect (op ∷ ops) = stones_set

@@ -1,5 +1,5 @@
 -- The next line stands before the cursor that went on, and was shown to the keeper.
-use Rattle.judged_lines.proofs.Common.{◌≡◌, ◌<◌, length, refl, arith, Front, advanced, SequencesState, SharesFront, Before, Unheld, Held, Refused, HasFront, common_steps, some_ends}
+use Rattle.judged_lines.proofs.Common.{◌≡◌, ◌<◌, length, refl, arith, Front, advanced, SequencesState, SharesFront, Before, Held, Refused, HasFront, common_steps, some_ends}
 use Rattle.judged_lines.specs.GoingOn.{no_front}
 use Rattle.judged_lines.proofs.GoingOn.{GoesOnBy, IsNext, goes_on, has_plays, plays_refused}
 use Rattle.judged_lines.proofs.Keeping.{has_front}
